@@ -1,0 +1,12 @@
+//! The plain data of the switch: what its calls, events, tapes and reports are made of.
+#![tactic(auto)]
+
+pub mod bridge;
+pub mod calls;
+pub mod code;
+pub mod events;
+pub mod journal;
+pub mod list;
+pub mod messages;
+pub mod records;
+pub mod tape;

@@ -1,0 +1,30 @@
+//! The records of a tape.
+use crate::list::ByteList;
+
+/// A controller's lane or a worker's.
+#[derive(Clone, Copy)]
+pub enum Who {
+    /// Controller lanes are 0 to 31.
+    Controller(u16),
+    /// Worker lanes are 0 to 15.
+    Worker(u16),
+}
+
+/// One record of a tape, the end record left out.
+#[derive(Drop)]
+pub enum TapeRecord {
+    /// A call of a controller: `method` is 1 Write, 2 Read, 3 SetForwardingPipelineConfig,
+    /// 4 GetForwardingPipelineConfig, 5 a message of the stream channel, 6 Capabilities;
+    /// `message` is the protobuf message, at most 8 MiB.
+    Call {
+        lane: u16,
+        method: u8,
+        message: ByteList,
+    },
+    /// A packet of at most 9,216 bytes that a worker gets from a port, 0 to 510.
+    Packet {
+        lane: u16,
+        port: u16,
+        packet: ByteList,
+    },
+}

@@ -1,0 +1,15 @@
+pub mod Answer
+pub mod Bridge
+pub mod Bytes
+pub mod Control
+pub mod History
+pub mod Insert
+pub mod Meaning
+pub mod Play
+pub mod Report
+pub mod ReportText
+pub mod Rows
+pub mod Status
+pub mod Tape
+pub mod TapeReading
+pub mod Text

@@ -1,0 +1,113 @@
+-- What it is for a text to be the report of a tape (this project's profile).
+use Rattle.std.specs.Prelude.{◌≡◌, ℕ, ◌+◌, ◌≤◌, ◌==◌, List, [], ◌∷◌, ◌++◌, length, map, filter, count_by, false, if◌then◌else◌, Option, Some, None, option_map}
+use Rattle.std.specs.List.{filter_map, AllByRecursion}
+use Rattle.p4_types.specs.declared.events.Event.{Event}
+use Rattle.p4_types.specs.declared.events.Start.{Start}
+use Rattle.p4_types.specs.declared.journal.Report.{Report}
+use Rattle.p4_types.specs.declared.records.Record.{Record}
+use Rattle.p4_types.specs.declared.tape.TapeRecord.{TapeRecord}
+use Rattle.p4_types.specs.declared.tape.TapeRecord.TheVariants.{Call, Packet}
+use Rattle.p4_types.specs.declared.tape.Who.{Who}
+use Rattle.p4_types.specs.declared.tape.Who.TheVariants.{Controller, Worker}
+use Rattle.switch_spec.specs.Answer.{LaneCall}
+use Rattle.switch_spec.specs.Control.{opened, after, Legal}
+use Rattle.switch_spec.specs.History.{Made, History, Numbered, published, steps_of, is_refused_for_memory}
+use Rattle.switch_spec.specs.Meaning.{meaning, record_of}
+use Rattle.switch_spec.specs.ReportText.{is_who, records_of, report_text}
+
+-- a packet with the port at which it enters
+abbrev pub Arrival : Type 0
+Arrival = ℕ × List ℕ
+
+-- a packet beside its record
+pub record Carried : Type 0 where
+  pub arrival : Arrival
+  pub outcome : Record
+
+-- the calls of one controller's lane on the tape, in order
+abbrev pub call_on : ℕ → TapeRecord → Option LaneCall
+call_on lane (Call other method message) = if lane == other then Some (record { method = method; message = message }) else None
+call_on lane (Packet other port packet) = None
+
+-- the packets of one worker's lane on the tape, in order
+abbrev pub packet_on : ℕ → TapeRecord → Option Arrival
+packet_on lane (Call other method message) = None
+packet_on lane (Packet other port packet) = if lane == other then Some (port, packet) else None
+
+-- the calls that a lane made
+abbrev pub made_on : ℕ → List Made → List Made
+made_on lane journal = filter (λ made. lane == made.entry.lane) journal
+
+-- the packets that a lane carried
+abbrev pub carried_on : Who → List Carried → List Carried
+carried_on lane records = filter (λ carried. is_who lane carried.outcome.who) records
+
+-- a packet of a controller enters at the CPU port
+abbrev pub from_cpu : Start → List ℕ → Arrival
+from_cpu start packet = (start.cpu, packet)
+
+-- the packet that a call made enter
+abbrev pub packet_out : Start → Made → Option Arrival
+packet_out start made = option_map (from_cpu start) made.entry.reply.packet
+
+-- those of a lane's calls
+abbrev pub packets_out : Start → ℕ → List Made → List Arrival
+packets_out start lane journal = filter_map (packet_out start) (made_on lane journal)
+
+-- The outcome is the meaning of the packet after that many steps of the list.
+pub record Fits (start : Start) (list : List Event) (carried : Carried) : Type 0 where
+  pub in_list : carried.outcome.steps ≤ length (steps_of list)
+  pub meant : let r = carried.outcome in
+      r ≡ record_of r.who r.index r.steps (meaning (after start list r.steps) carried.arrival.0 carried.arrival.1)
+
+-- a lane's packets are numbered 1, 2, 3 and on, and none is after fewer steps than one before it
+abbrev pub InTurn : List Record → List Record → Type 0
+InTurn before [] = Unit {0}
+InTurn before (r ∷ later) =
+    (r.index ≡ count_by (λ e. is_who r.who e.who) before + 1) × AllByRecursion (λ e. e.steps ≤ r.steps) (records_of r.who before) × InTurn (before ++ r ∷ []) later
+
+-- The journal and the records are a run of the tape, in some interleaving of its lanes.
+pub record IsRun (start : Start) (tape : List TapeRecord) (journal : List Made) (records : List Carried) : Type 0 where
+  -- each lane's calls whole, in order, each once
+  pub calls : (lane : ℕ) → map (λ made. made.call) (made_on lane journal) ≡ filter_map (call_on lane) tape
+  pub numbered : Numbered [] (map (λ made. made.entry) journal)
+  -- each reply is the answer in the state that the earlier entries left
+  pub history : History (opened start) 0 journal
+  pub legal : Legal (opened start) (published start journal)
+  -- each packet once, of a worker from the tape, of a controller from its calls
+  pub packets : (lane : ℕ) → map (λ carried. carried.arrival) (carried_on (Worker lane) records) ≡ filter_map (packet_on lane) tape
+  pub out : (lane : ℕ) → map (λ carried. carried.arrival) (carried_on (Controller lane) records) ≡ packets_out start lane journal
+  pub in_turn : InTurn [] (map (λ carried. carried.outcome) records)
+  -- each packet's outcome is its meaning after its steps
+  pub fits : AllByRecursion (Fits start (published start journal)) records
+
+-- Journal and records follow the tape: each packet is after just the steps of the calls before it.
+abbrev pub Lockstep : ℕ → List TapeRecord → List Made → List Carried → Type 0
+Lockstep n [] journal records = (journal ≡ []) × (records ≡ [])
+Lockstep n (Call lane method message ∷ tape) [] records = ⊥
+Lockstep n (Call lane method message ∷ tape) (made ∷ journal) records =
+    (made.entry.lane ≡ lane) × (made.call ≡ record { method = method; message = message }) × Lockstep made.entry.reply.steps tape journal records
+Lockstep n (Packet lane port packet ∷ tape) journal [] = ⊥
+Lockstep n (Packet lane port packet ∷ tape) journal (carried ∷ records) =
+    (carried.outcome.who ≡ Worker lane) × (carried.arrival ≡ (port, packet)) × (carried.outcome.steps ≡ n) × Lockstep n tape journal records
+
+-- what the report shows of a run; the bridge counts nothing, and no lane holds bytes of a transport
+abbrev pub report_of : List Made → List Carried → Report
+report_of journal records = record { journal = map (λ made. made.entry) journal; sent = []; records = map (λ carried. carried.outcome) records; counts = []; cells = [] }
+
+-- The text is the report of a run of the tape.
+pub record IsReport (start : Start) (tape : List TapeRecord) (text : List ℕ) : Type 0 where
+  pub journal : List Made
+  pub records : List Carried
+  pub run : IsRun start tape journal records
+  pub written : text ≡ report_text (report_of journal records)
+
+-- The text is the report of the run that follows the tape.
+pub record IsLockstepReport (start : Start) (tape : List TapeRecord) (text : List ℕ) : Type 0 where
+  pub report : IsReport start tape text
+  pub lockstep : Lockstep 0 tape report.journal report.records
+
+-- Where no call is refused for memory the tape determines the report.
+abbrev pub TapeDeterminesReport : Type 0
+TapeDeterminesReport = (start : Start) (tape : List TapeRecord) (one other : List ℕ) (a : IsLockstepReport start tape one) (b : IsLockstepReport start tape other)
+    → AllByRecursion (λ made. is_refused_for_memory made ≡ false) a.report.journal → AllByRecursion (λ made. is_refused_for_memory made ≡ false) b.report.journal → one ≡ other

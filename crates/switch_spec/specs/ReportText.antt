@@ -1,0 +1,114 @@
+-- The text of a report, line by line (this project's profile).
+use Rattle.std.specs.Prelude.{ℕ, ◌+◌, ◌==◌, Bool, false, if◌then◌else◌, List, [], ◌∷◌, ◌++◌, length, map, filter, sum_by, codes, Option}
+use Rattle.std.specs.List.{flat_map}
+use Rattle.std.specs.Fmt.{decimal}
+use Rattle.p4_types.specs.CodeNumber.{code_number}
+use Rattle.p4_types.specs.declared.calls.Notice.{Notice}
+use Rattle.p4_types.specs.declared.journal.StepKind.{StepKind}
+use Rattle.p4_types.specs.declared.journal.StepKind.TheVariants as kinds
+use Rattle.p4_types.specs.declared.journal.Step.{Step}
+use Rattle.p4_types.specs.declared.journal.Entry.{Entry}
+use Rattle.p4_types.specs.declared.journal.CountLine.{CountLine}
+use Rattle.p4_types.specs.declared.journal.CellLine.{CellLine}
+use Rattle.p4_types.specs.declared.journal.Report.{Report}
+use Rattle.p4_types.specs.declared.messages.StreamMessageResponse.{StreamMessageResponse}
+use Rattle.p4_types.specs.declared.records.HitMark.{HitMark}
+use Rattle.p4_types.specs.declared.records.HitMark.TheVariants as marks
+use Rattle.p4_types.specs.declared.records.Record.{Record}
+use Rattle.p4_types.specs.declared.tape.Who.{Who}
+use Rattle.p4_types.specs.declared.tape.Who.TheVariants as who
+use Rattle.switch_spec.specs.Text.{hex_word, pair_word, list_word, option_word, line, count_up}
+
+abbrev pub kind_word : StepKind → List ℕ
+kind_word kinds.Arbitrate = codes "arbitrate"
+kind_word kinds.Leave = codes "leave"
+kind_word kinds.Change = codes "change"
+kind_word kinds.Batch = codes "batch"
+kind_word kinds.Save = codes "save"
+kind_word kinds.Commit = codes "commit"
+
+-- the step of number i, of a lane's call
+abbrev pub step_line : ℕ → ℕ → ℕ → Step → List ℕ
+step_line i lane call step = line (codes "step" ∷ decimal i ∷ decimal lane ∷ decimal call ∷ kind_word step.kind ∷ decimal step.changes ∷ [])
+
+-- the steps after the first i
+abbrev pub step_lines : ℕ → ℕ → ℕ → List Step → List ℕ
+step_lines i lane call [] = []
+step_lines i lane call (step ∷ steps) = step_line (i + 1) lane call step ++ step_lines (i + 1) lane call steps
+
+-- the bytes of a message to a controller: there is none yet
+abbrev pub response_bytes : StreamMessageResponse → List ℕ
+response_bytes message = elim message [ ]
+
+abbrev pub notice_line : Notice → List ℕ
+notice_line notice = line (codes "notice" ∷ decimal notice.lane ∷ hex_word (response_bytes notice.message) ∷ [])
+
+abbrev pub reply_line : Entry → List ℕ
+reply_line entry = line (codes "reply" ∷ decimal entry.lane ∷ decimal entry.call ∷ decimal entry.reply.steps
+    ∷ decimal (code_number entry.reply.code) ∷ list_word hex_word entry.reply.messages ∷ [])
+
+-- a call whose first step comes after i steps
+abbrev pub entry_lines : ℕ → Entry → List ℕ
+entry_lines i entry = step_lines i entry.lane entry.call entry.steps ++ (flat_map notice_line entry.reply.notices ++ reply_line entry)
+
+-- the calls after i steps
+abbrev pub journal_lines : ℕ → List Entry → List ℕ
+journal_lines i [] = []
+journal_lines i (entry ∷ entries) = entry_lines i entry ++ journal_lines (i + length entry.steps) entries
+
+abbrev pub who_word : Who → List ℕ
+who_word (who.Controller lane) = codes "c" ++ decimal lane
+who_word (who.Worker lane) = codes "w" ++ decimal lane
+
+abbrev pub fate_word : ℕ → List ℕ
+fate_word fate = if fate == 0 then codes "sent" else codes "drop" ++ decimal fate
+
+-- a number and bytes
+abbrev pub tagged_word : ℕ × List ℕ → List ℕ
+tagged_word x = pair_word (decimal x.0) (hex_word x.1)
+
+-- a packet to a controller's lane, or to none
+abbrev pub cpu_word : Option ℕ × List ℕ → List ℕ
+cpu_word x = pair_word (option_word decimal x.0) (hex_word x.1)
+
+abbrev pub mark_word : HitMark → List ℕ
+mark_word (marks.Entry table seq) = pair_word (decimal table) (decimal seq)
+mark_word (marks.Cell slot) = codes "@" ++ decimal slot
+
+abbrev pub packet_line : Record → List ℕ
+packet_line r = line (codes "packet" ∷ who_word r.who ∷ decimal r.index ∷ decimal r.steps ∷ fate_word r.fate ∷ list_word tagged_word r.outputs
+    ∷ list_word cpu_word r.cpu ∷ option_word tagged_word r.digest ∷ list_word mark_word r.hits ∷ [])
+
+abbrev pub is_who : Who → Who → Bool
+is_who (who.Controller a) (who.Controller b) = a == b
+is_who (who.Controller a) (who.Worker b) = false
+is_who (who.Worker a) (who.Controller b) = false
+is_who (who.Worker a) (who.Worker b) = a == b
+
+-- the records of one lane
+abbrev pub records_of : Who → List Record → List Record
+records_of lane records = filter (λ r. is_who lane r.who) records
+
+-- the workers' lanes, then the controllers'
+abbrev pub lanes : List Who
+lanes = map who.Worker (count_up 0 16) ++ map who.Controller (count_up 0 32)
+
+-- lane by lane
+abbrev pub packet_lines : List Record → List ℕ
+packet_lines records = flat_map (λ lane. flat_map packet_line (records_of lane records)) lanes
+
+abbrev pub sent_line : ℕ × List ℕ → List ℕ
+sent_line x = line (codes "sent" ∷ decimal x.0 ∷ hex_word x.1 ∷ [])
+
+abbrev pub count_line : CountLine → List ℕ
+count_line c = line (codes "count" ∷ decimal c.seq ∷ decimal c.table ∷ decimal c.packets ∷ decimal c.bytes ∷ [])
+
+abbrev pub cell_line : CellLine → List ℕ
+cell_line c = line (codes "cell" ∷ decimal c.slot ∷ decimal c.counter ∷ decimal c.index ∷ decimal c.packets ∷ decimal c.bytes ∷ [])
+
+abbrev pub end_line : Report → List ℕ
+end_line r = line (codes "end" ∷ decimal (sum_by (λ entry. length entry.steps) r.journal) ∷ decimal (length r.records) ∷ [])
+
+abbrev pub report_text : Report → List ℕ
+report_text r = journal_lines 0 r.journal ++ (flat_map sent_line r.sent ++ (packet_lines r.records
+    ++ (flat_map count_line r.counts ++ (flat_map cell_line r.cells ++ end_line r))))

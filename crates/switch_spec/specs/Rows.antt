@@ -1,0 +1,60 @@
+-- Worked runs of the bridge, each with the bytes of its tape and the text of its report.
+use Rattle.std.specs.Prelude.{◌≡◌, ℕ, true, List, [], ◌∷◌, codes}
+use Rattle.hex.specs.Hex.{encode_lower}
+use Rattle.p4_types.specs.declared.events.Start.{Start}
+use Rattle.p4_types.specs.declared.tape.TapeRecord.{TapeRecord}
+use Rattle.p4_types.specs.declared.tape.TapeRecord.TheVariants.{Call, Packet}
+use Rattle.switch_spec.specs.Insert.{insert_bytes}
+use Rattle.switch_spec.specs.Report.{IsLockstepReport}
+use Rattle.switch_spec.specs.Tape.{tape_bytes}
+
+-- with what `replay --lockstep --bridge` starts
+abbrev pub bridge_start : Start
+bridge_start = record { device = 1; cpu = 255; rows = 16384; bridge = true }
+
+-- the tape is spelled so in hex, and this is its report
+pub record IsWorked (tape : List TapeRecord) (spelled text : List ℕ) : Type 0 where
+  pub bytes : encode_lower (tape_bytes tape) ≡ spelled
+  pub report : IsLockstepReport bridge_start tape text
+
+-- controller 0 inserts the address of this one byte, to port 2
+abbrev pub inserting : ℕ → TapeRecord
+inserting address = Call 0 1 (insert_bytes (record { address = address ∷ []; port = 2 }))
+
+-- a frame of 14 bytes from address 1 to the address of this last byte
+abbrev pub frame_to : ℕ → List ℕ
+frame_to address = 0 ∷ 0 ∷ 0 ∷ 0 ∷ 0 ∷ address ∷ 0 ∷ 0 ∷ 0 ∷ 0 ∷ 0 ∷ 1 ∷ 8 ∷ 0 ∷ []
+
+-- its first 13 bytes
+abbrev pub cut_frame : List ℕ
+cut_frame = 0 ∷ 0 ∷ 0 ∷ 0 ∷ 0 ∷ 2 ∷ 0 ∷ 0 ∷ 0 ∷ 0 ∷ 0 ∷ 1 ∷ 8 ∷ []
+
+-- the shortest tape: only the end line
+abbrev pub EmptyTape : Type 0
+EmptyTape = IsWorked ([])
+    (codes "503454415045310a00000000000000")
+    (codes "end 0 0\n")
+
+-- an inserted address forwards its packet; a packet to another address is dropped
+abbrev pub OneEntryOnePacket : Type 0
+OneEntryOnePacket = IsWorked (inserting 2 ∷ Packet 0 1 (frame_to 2) ∷ Packet 0 1 (frame_to 3) ∷ [])
+    (codes "503454415045310a0100000000002d0108011a021001222408011220121e08818080101207080112030a01021a0e0a0c0881808008220510011a01020200000000001000010000000000020000000000010800020000000000100001000000000003000000000001080000000000000000")
+    (codes "step 1 0 1 change 1\nreply 0 1 1 0 .\npacket w0 1 1 sent 2:0000000000020000000000010800 - - 33554433:1\npacket w0 2 1 drop1 - - - -\nend 1 2\n")
+
+-- an INSERT of what is present is refused with its cause
+abbrev pub InsertTwice : Type 0
+InsertTwice = IsWorked (inserting 2 ∷ inserting 2 ∷ [])
+    (codes "503454415045310a0100000000002d0108011a021001222408011220121e08818080101207080112030a01021a0e0a0c0881808008220510011a01020100000000002d0108011a021001222408011220121e08818080101207080112030a01021a0e0a0c0881808008220510011a010200000000000000")
+    (codes "step 1 0 1 change 1\nreply 0 1 1 0 .\nreply 0 2 1 2 08021a310a1f747970652e676f6f676c65617069732e636f6d2f70342e76312e4572726f72120e08061a087034737769746368200a\nend 1 0\n")
+
+-- the fifth entry of the table is refused
+abbrev pub TableFull : Type 0
+TableFull = IsWorked (inserting 2 ∷ inserting 3 ∷ inserting 4 ∷ inserting 5 ∷ inserting 6 ∷ [])
+    (codes "503454415045310a0100000000002d0108011a021001222408011220121e08818080101207080112030a01021a0e0a0c0881808008220510011a01020100000000002d0108011a021001222408011220121e08818080101207080112030a01031a0e0a0c0881808008220510011a01020100000000002d0108011a021001222408011220121e08818080101207080112030a01041a0e0a0c0881808008220510011a01020100000000002d0108011a021001222408011220121e08818080101207080112030a01051a0e0a0c0881808008220510011a01020100000000002d0108011a021001222408011220121e08818080101207080112030a01061a0e0a0c0881808008220510011a010200000000000000")
+    (codes "step 1 0 1 change 1\nreply 0 1 1 0 .\nstep 2 0 2 change 1\nreply 0 2 2 0 .\nstep 3 0 3 change 1\nreply 0 3 3 0 .\nstep 4 0 4 change 1\nreply 0 4 4 0 .\nreply 0 5 4 2 08021a310a1f747970652e676f6f676c65617069732e636f6d2f70342e76312e4572726f72120e08081a087034737769746368200c\nend 4 0\n")
+
+-- a packet of 13 bytes looks up address 0 and leaves whole
+abbrev pub ShortPacket : Type 0
+ShortPacket = IsWorked (inserting 0 ∷ Packet 0 1 cut_frame ∷ [])
+    (codes "503454415045310a0100000000002d0108011a021001222408011220121e08818080101207080112030a01001a0e0a0c0881808008220510011a01020200000000000f00010000000000020000000000010800000000000000")
+    (codes "step 1 0 1 change 1\nreply 0 1 1 0 .\npacket w0 1 1 sent 2:00000000000200000000000108 - - 33554433:1\nend 1 1\n")

@@ -1,0 +1,66 @@
+-- The grammar of tapes (this project's profile).
+use Rattle.std.specs.Prelude.{◌≡◌, ℕ, ◌<◌, ◌≤◌, List, [], ◌∷◌, ◌++◌, length, take, codes, All}
+use Rattle.std.specs.List.{flat_map}
+use Rattle.std.specs.Int.{w16, w32, to_be_bytes}
+use Rattle.p4_types.specs.declared.tape.TapeRecord.{TapeRecord}
+use Rattle.p4_types.specs.declared.tape.TapeRecord.TheVariants.{Call, Packet}
+
+-- a record of this kind and lane: both, the payload's length, and the payload
+abbrev pub framed : ℕ → ℕ → List ℕ → List ℕ
+framed kind lane payload = kind ∷ to_be_bytes w16 lane ++ to_be_bytes w32 (length payload) ++ payload
+
+-- how a record stands on a tape
+abbrev pub record_bytes : TapeRecord → List ℕ
+record_bytes (Call lane method message) = framed 1 lane (method ∷ message)
+record_bytes (Packet lane port packet) = framed 2 lane (to_be_bytes w16 port ++ packet)
+
+-- what is true of the record of a call: one of 32 controllers' lanes, a method of P4Runtime, a message of at most 8 MiB
+pub record IsCall (lane method : ℕ) (message : List ℕ) : Type 0 where
+  pub of_controller : lane < 32
+  pub low_method : 1 ≤ method
+  pub high_method : method ≤ 6
+  pub size : length message ≤ 8388608
+
+-- what is true of the record of a packet: one of 16 workers' lanes, a port, at most 9,216 bytes
+pub record IsPacket (lane port : ℕ) (packet : List ℕ) : Type 0 where
+  pub of_worker : lane < 16
+  pub in_ports : port ≤ 510
+  pub size : length packet ≤ 9216
+
+-- a record that may stand on a tape
+abbrev pub IsRecord : TapeRecord → Type 0
+IsRecord (Call lane method message) = IsCall lane method message
+IsRecord (Packet lane port packet) = IsPacket lane port packet
+
+-- the bytes with which each tape begins
+abbrev pub magic : List ℕ
+magic = codes "P4TAPE1\n"
+
+-- the record that ends a tape
+abbrev pub end_bytes : List ℕ
+end_bytes = framed 0 0 []
+
+-- the bytes of the tape of these records
+abbrev pub tape_bytes : List TapeRecord → List ℕ
+tape_bytes records = magic ++ (flat_map record_bytes records ++ end_bytes)
+
+-- the bytes are the tape of these records
+pub record IsTape (bytes : List ℕ) (records : List TapeRecord) : Type 0 where
+  pub spelled : bytes ≡ tape_bytes records
+  pub each : All IsRecord records
+
+-- some tape begins with these bytes
+pub record BeginsTape (bytes : List ℕ) : Type 0 where
+  pub records : List TapeRecord
+  pub more : List ℕ
+  pub tape : IsTape (bytes ++ more) records
+
+-- n is the length of the longest front of the bytes with which some tape begins
+pub record IsLongestBeginning (bytes : List ℕ) (n : ℕ) : Type 0 where
+  pub within : n ≤ length bytes
+  pub begins : BeginsTape (take n bytes)
+  pub longest : (m : ℕ) → n < m → m ≤ length bytes → BeginsTape (take m bytes) → ⊥
+
+-- no tape is the front of another
+abbrev pub NoTapeBeginsAnother : Type 0
+NoTapeBeginsAnother = (bytes more : List ℕ) (xs ys : List TapeRecord) → IsTape bytes xs → IsTape (bytes ++ more) ys → (more ≡ []) × (xs ≡ ys)

@@ -1,0 +1,4 @@
+//! What everything means: the definitions that all crates above cite, and laws about them.
+#![tactic(auto)]
+
+pub mod laws;
