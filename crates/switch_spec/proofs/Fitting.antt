@@ -3,7 +3,7 @@ use Rattle.std.proofs.Common.{◌≡◌, ℕ, ◌≤◌, false, List, [], ◌∷
 use Rattle.std.proofs.lemmas.List.Elements.{filter_map-append}
 use Rattle.std.proofs.lemmas.List.Sums.{fold-append}
 use Rattle.std.proofs.Math.Seq.{take-append_seam}
-use Rattle.std.specs.List.{AllByRecursion}
+use Rattle.std.specs.List.{zip, AllByRecursion}
 use Rattle.p4_types.specs.declared.events.Event.{Event}
 use Rattle.p4_types.specs.declared.events.Event.TheVariants as events
 use Rattle.p4_types.specs.declared.events.Start.{Start}
@@ -15,7 +15,7 @@ use Rattle.switch_spec.specs.Control.{opened, apply, applied, Legal, after}
 use Rattle.switch_spec.specs.History.{journal_events, published, step_of, steps_of}
 use Rattle.switch_spec.specs.Meaning.{meaning, record_of}
 use Rattle.switch_spec.specs.Play.{Played, begun, next_call, next_packet, play_call, play_packet, played, played_report}
-use Rattle.switch_spec.specs.Report.{Fits, IsRun, IsLockstepReport, report_of}
+use Rattle.switch_spec.specs.Report.{Carried, Fits, made_with_packet, IsRun, IsLockstepReport, report_of}
 use Rattle.switch_spec.specs.ReportText.{report_text}
 use Rattle.switch_spec.proofs.Answers.{answer_sound}
 use Rattle.switch_spec.proofs.Following.{calls_follow, packets_follow, none_of_controllers, no_packets_out}
@@ -102,6 +102,9 @@ run_played start tape =
       legal = subst P (sym end_is) (legal_played p tape refl);
       packets = λ lane. packets_follow lane 0 tape _ _ follows;
       out = λ lane. ap (map (λ c. c.arrival)) (none_of_controllers lane 0 tape _ _ follows) ∙ sym (no_packets_out start lane (opened start) 0 _ (history_played p tape));
+      covers = λ lane.
+        let Q : List Carried → Type 0 = λ list. AllByRecursion (λ x. x.1.entry.reply.steps ≤ x.0.outcome.steps) (zip list (made_with_packet lane (made p tape))) in
+        subst Q (sym (none_of_controllers lane 0 tape _ _ follows)) tt;
       in_turn = in_turn_played p tape tt;
       fits = fits_played start _ p tape [] (record { control = refl; steps = refl; all_steps = refl }) end_is;
     }

@@ -5,4 +5,8 @@ pub mod Following
 pub mod Inserts
 pub mod Lists
 pub mod Playing
+pub mod Readers
+pub mod TapeItems
+pub mod TapeRecords
+pub mod Tapes
 pub mod WorkedRows

@@ -33,6 +33,10 @@ unfoldable pub insert_bytes : Named → List ℕ
 insert_bytes named = spelling (number_field 1 1 ∷ bytes_field 3 (spelling (number_field 2 1 ∷ [])) ∷ bytes_field 4 (update_bytes named) ∷ [])
 
 -- an address of 1 to 6 bytes, and a port from 0 to 254
+abbrev pub IsServed : Named → Type 0
+IsServed named = ((1 ≤ length named.address) × (length named.address ≤ 6)) × (named.port ≤ 254)
+
+-- the same as a test
 abbrev pub is_served : Named → Bool
 is_served named = nat_le 1 (length named.address) && nat_le (length named.address) 6 && nat_le named.port 254
 
@@ -53,9 +57,7 @@ insert_of method message =
 -- The call is a Write whose message is the canonical spelling of such an INSERT.
 pub record IsInsert (method : ℕ) (message : List ℕ) (insert : BridgeInsert) : Type 0 where
   pub named : Named
-  pub long : 1 ≤ length named.address
-  pub short : length named.address ≤ 6
-  pub in_ports : named.port ≤ 254
+  pub served : IsServed named
   pub method_is : method ≡ 1
   pub message_is : message ≡ insert_bytes named
   pub brings : insert ≡ insert_named named

@@ -11,5 +11,6 @@ pub mod ReportText
 pub mod Rows
 pub mod Status
 pub mod Tape
+pub mod TapeLaws
 pub mod TapeReading
 pub mod Text

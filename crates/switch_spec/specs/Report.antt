@@ -1,6 +1,6 @@
 -- What it is for a text to be the report of a tape (this project's profile).
-use Rattle.std.specs.Prelude.{◌≡◌, ℕ, ◌+◌, ◌≤◌, ◌==◌, List, [], ◌∷◌, ◌++◌, length, map, filter, count_by, false, if◌then◌else◌, Option, Some, None, option_map}
-use Rattle.std.specs.List.{filter_map, AllByRecursion}
+use Rattle.std.specs.Prelude.{◌≡◌, ℕ, ◌+◌, ◌≤◌, ◌==◌, List, [], ◌∷◌, ◌++◌, length, map, filter, count_by, false, if◌then◌else◌, Option, Some, None, option_map, is_some}
+use Rattle.std.specs.List.{filter_map, zip, AllByRecursion}
 use Rattle.p4_types.specs.declared.events.Event.{Event}
 use Rattle.p4_types.specs.declared.events.Start.{Start}
 use Rattle.p4_types.specs.declared.journal.Report.{Report}
@@ -66,6 +66,15 @@ InTurn before [] = Unit {0}
 InTurn before (r ∷ later) =
     (r.index ≡ count_by (λ e. is_who r.who e.who) before + 1) × AllByRecursion (λ e. e.steps ≤ r.steps) (records_of r.who before) × InTurn (before ++ r ∷ []) later
 
+-- the calls of a lane that made a packet enter
+abbrev pub made_with_packet : ℕ → List Made → List Made
+made_with_packet lane journal = filter (λ made. is_some made.entry.reply.packet) (made_on lane journal)
+
+-- a packet of a controller is after at least the steps through the call that made it enter
+abbrev pub Covers : ℕ → List Made → List Carried → Type 0
+Covers lane journal records =
+    AllByRecursion (λ x. x.1.entry.reply.steps ≤ x.0.outcome.steps) (zip (carried_on (Controller lane) records) (made_with_packet lane journal))
+
 -- The journal and the records are a run of the tape, in some interleaving of its lanes.
 pub record IsRun (start : Start) (tape : List TapeRecord) (journal : List Made) (records : List Carried) : Type 0 where
   -- each lane's calls whole, in order, each once
@@ -77,6 +86,7 @@ pub record IsRun (start : Start) (tape : List TapeRecord) (journal : List Made) 
   -- each packet once, of a worker from the tape, of a controller from its calls
   pub packets : (lane : ℕ) → map (λ carried. carried.arrival) (carried_on (Worker lane) records) ≡ filter_map (packet_on lane) tape
   pub out : (lane : ℕ) → map (λ carried. carried.arrival) (carried_on (Controller lane) records) ≡ packets_out start lane journal
+  pub covers : (lane : ℕ) → Covers lane journal records
   pub in_turn : InTurn [] (map (λ carried. carried.outcome) records)
   -- each packet's outcome is its meaning after its steps
   pub fits : AllByRecursion (Fits start (published start journal)) records

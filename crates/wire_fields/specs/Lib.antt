@@ -1,2 +1,5 @@
 pub mod Fields
 pub mod Spelling
+pub mod Field
+pub mod Reading
+pub mod Laws

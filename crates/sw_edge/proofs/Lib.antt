@@ -1,0 +1,4 @@
+pub mod Copied
+pub mod CountLaws
+pub mod RealLaws
+pub mod ToldLaws

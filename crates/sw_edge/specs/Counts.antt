@@ -1,0 +1,19 @@
+-- Counts that never fall and stay at 2^64 - 1.
+use Rattle.std.specs.Prelude.{ℕ, Bool, ◌+◌, ◌-◌, ◌^◌, ◌≤◌, min, if◌then◌else◌}
+
+-- a count after one more
+abbrev pub one_more : ℕ → ℕ
+one_more count = min (count + 1) (2 ^ 64 - 1)
+
+-- a count after one more, if there was one
+abbrev pub one_more_if : Bool → ℕ → ℕ
+one_more_if came count = if came then one_more count else count
+
+-- a count rose, by any number, or stays at its end
+abbrev pub Rose : ℕ → ℕ → Type 0
+Rose before now = one_more before ≤ now
+
+-- a count did not fall, and what it counts came only where it rose
+pub record HasCause (before now : ℕ) (came : Type 0) : Type 0 where
+  pub later : before ≤ now
+  pub cause : came → Rose before now

@@ -1,0 +1,48 @@
+-- What the objects in memory hold.
+use Rattle.std.specs.Prelude.{ℕ, Bool, List, ◌==◌}
+use Rattle.std.specs.List.{list_any}
+use Rattle.sw_edge.specs.Counts.{one_more}
+
+-- which calls are picked, by index from 0, and how many calls there were
+pub record Picked : Type 0 where
+  pub indices : List ℕ
+  pub calls : ℕ
+
+-- these calls, before the first one
+abbrev pub picks : List ℕ → Picked
+picks indices = record { indices = indices; calls = 0 }
+
+-- whether the next call is picked
+abbrev pub is_next : Picked → Bool
+is_next picked = list_any (λ index. index == picked.calls) picked.indices
+
+-- the same list, a call later
+abbrev pub after_call : Picked → Picked
+after_call picked = record picked { calls = one_more picked.calls }
+
+-- bytes that are read in pieces of at most a length
+pub record Unread : Type 0 where
+  pub left : List ℕ
+  pub piece : ℕ
+
+-- bytes that were written, and how many there is room for in all
+pub record Written : Type 0 where
+  pub sent : List ℕ
+  pub room : ℕ
+
+-- a source: what is left, which reads fail, and how many did
+pub record HeldSource : Type 0 where
+  pub unread : Unread
+  pub failing : Picked
+  pub faults : ℕ
+
+-- a sink: what was sent, which writes fail, and how many did
+pub record HeldSink : Type 0 where
+  pub written : Written
+  pub failing : Picked
+  pub faults : ℕ
+
+-- a clock: the moments to come, and the last one that was told
+pub record HeldClock : Type 0 where
+  pub coming : List ℕ
+  pub last : ℕ

@@ -1,0 +1,143 @@
+// A source and a sink in memory.
+ghost use Rattle.std.specs.Prelude.{◌≡◌, ◌+◌, ◌<◌, ◌≤◌, ◌++◌, ◌↔◌, ◌⊎◌, ℕ, [], Some, length, IfOk, IsTrue};
+ghost use Rattle.sw_edge.specs.Answers.{Fits, Takes, Sends};
+ghost use Rattle.sw_edge.specs.Counts.{HasCause, one_more_if};
+ghost use Rattle.sw_edge.specs.Memory.{HeldSource, HeldSink, picks, is_next, after_call};
+
+use crate::count::{Picks, raise};
+use crate::held::{Pieces, Store};
+use crate::{Got, Sent, Sink, Source};
+use std::alloc::{AllocError, Global};
+use std::marker::Model;
+
+/// Bytes in memory, of which some reads fail: those whose index, from 0, is in a list.
+#[derive(Drop)]
+pub struct MemorySource {
+    unread: Pieces,
+    failing: Picks,
+    faults: u64,
+}
+
+impl Model for MemorySource {
+    ghost Value = { HeldSource };
+
+    ghost view = { λ s. record { unread = s.unread; failing = s.failing; faults = s.faults } };
+}
+
+impl MemorySource {
+    /// These bytes, as many at a read as the buffer takes.
+    pub fn new(bytes: Vec<u8>, failing: Vec<u64>) -> MemorySource
+        ensures left { result.unread.left ≡ bytes.items }
+        ensures failing { result.failing ≡ picks failing.items }
+        ensures faults { result.faults ≡ 0 }
+    {
+        MemorySource::in_pieces(bytes, usize::MAX, failing)
+    }
+
+    /// These bytes, at most `piece` of them at a read.
+    pub fn in_pieces(bytes: Vec<u8>, piece: usize, failing: Vec<u64>) -> MemorySource
+        requires { 0 < piece }
+        ensures left { result.unread ≡ record { left = bytes.items; piece = piece } }
+        ensures failing { result.failing ≡ picks failing.items }
+        ensures faults { result.faults ≡ 0 }
+    {
+        MemorySource {
+            unread: Pieces::new(bytes, piece),
+            failing: Picks::new(failing),
+            faults: 0,
+        }
+    }
+}
+
+impl Source for MemorySource {
+    ghost left = { λ s. Some s.unread.left };
+
+    ghost faults = { λ s. s.faults };
+
+    fn read(&mut self, buf: &mut [u8]) -> Got
+        requires { 0 < length buf.old }
+        ensures fits { Fits result buf.new }
+        ensures takes { Takes (Some self.old.unread.left) (Some self.new.unread.left) result buf.new }
+        ensures failed { HasCause self.old.faults self.new.faults (result ≡ Got.Failed) }
+
+        // It fails where it is told to, and nowhere else.
+        ensures picked { (result ≡ Got.Failed) ↔ IsTrue (is_next self.old.failing) }
+        ensures counted { self.new.failing ≡ after_call self.old.failing }
+        ensures faults { self.new.faults ≡ one_more_if (is_next self.old.failing) self.old.faults }
+        ensures in_pieces { (n : ℕ) → result ≡ Got.Bytes n → n ≤ self.old.unread.piece }
+        ensures piece { self.new.unread.piece ≡ self.old.unread.piece }
+    {
+        if self.failing.call() {
+            raise(&mut self.faults);
+            return Got::Failed;
+        }
+        match self.unread.read_into(buf) {
+            0 => Got::End,
+            n => Got::Bytes(n),
+        }
+    }
+}
+
+/// Room in memory that is written to. Writes whose index, from 0, is in a list fail and write nothing;
+/// a write past the room fails and fills the room.
+#[derive(Drop)]
+pub struct MemorySink {
+    written: Store,
+    failing: Picks,
+    faults: u64,
+}
+
+impl Model for MemorySink {
+    ghost Value = { HeldSink };
+
+    ghost view = { λ s. record { written = s.written; failing = s.failing; faults = s.faults } };
+}
+
+impl MemorySink {
+    /// Room for this many bytes.
+    pub fn new(alloc: Global, room: usize, failing: Vec<u64>) -> Result<MemorySink, AllocError>
+        ensures written { IfOk result (λ s. s.written ≡ record { sent = []; room = room }) }
+        ensures failing { IfOk result (λ s. s.failing ≡ picks failing.items) }
+        ensures faults { IfOk result (λ s. s.faults ≡ 0) }
+    {
+        Ok(MemorySink {
+            written: Store::new(alloc, room)?,
+            failing: Picks::new(failing),
+            faults: 0,
+        })
+    }
+
+    /// The bytes that were written.
+    pub fn sent(&self) -> &[u8]
+        ensures { result.now ≡ self.now.written.sent }
+    {
+        self.written.bytes()
+    }
+}
+
+impl Sink for MemorySink {
+    ghost sent = { λ s. Some s.written.sent };
+
+    ghost faults = { λ s. s.faults };
+
+    fn write(&mut self, bytes: &[u8]) -> Sent
+        ensures sends { Sends (Some self.old.written.sent) (Some self.new.written.sent) result bytes.now }
+        ensures failed { HasCause self.old.faults self.new.faults (result ≡ Sent.Failed) }
+
+        // It fails where it is told to and where there is no room, and nowhere else.
+        ensures picked { IsTrue (is_next self.old.failing) → (result ≡ Sent.Failed) × (self.new.written ≡ self.old.written) }
+        ensures full { (result ≡ Sent.Failed) ↔ (IsTrue (is_next self.old.failing) ⊎ (self.old.written.room < length self.old.written.sent + length bytes.now)) }
+        ensures counted { self.new.failing ≡ after_call self.old.failing }
+        ensures room { self.new.written.room ≡ self.old.written.room }
+    {
+        if self.failing.call() {
+            raise(&mut self.faults);
+            return Sent::Failed;
+        }
+        let answer = self.written.add(bytes);
+        if let Sent::Failed = answer {
+            raise(&mut self.faults);
+        }
+        answer
+    }
+}

@@ -1,0 +1,161 @@
+// The standard streams and the clock of the system.
+ghost use Rattle.std.specs.Prelude.{◌≡◌, ◌≤◌, ℕ, length, take};
+ghost use Rattle.std.specs.Io.{ReadsAtMost};
+ghost use Rattle.std.specs.Io.KnownBytes.{Appends, ReadConsumes};
+ghost use Rattle.sw_edge.specs.Real.{Metered};
+
+use crate::count::raise;
+use crate::{Clock, Got, Sent, Sink, Source};
+use std::io::{self, ErrorKind, Read, Write};
+use std::marker::Model;
+use std::time;
+
+// How often a read that a signal cut short is tried.
+const TRIES: u32 = 1024;
+
+/// A reader, as of standard input, which tells what the reader tells. Each error counts as a fault.
+#[derive(Drop)]
+pub struct RealSource<R> {
+    reader: R,
+    faults: u64,
+}
+
+impl<R> Model for RealSource<R> {
+    ghost Value = { Metered R };
+
+    ghost view = { λ s. record { stream = s.reader; faults = s.faults } };
+}
+
+impl<R> RealSource<R> {
+    pub fn new(reader: R) -> RealSource<R>
+        ensures stream { result.stream ≡ reader }
+        ensures faults { result.faults ≡ 0 }
+    {
+        RealSource { reader, faults: 0 }
+    }
+}
+
+// One read, which is tried again where a signal cut it short.
+#[tactic(auto, using(crate::proofs::RealLaws::tries))]
+fn read_some<R: Read>(reader: &mut R, buf: &mut [u8]) -> io::Result<usize>
+    ensures bound { ReadsAtMost result buf.new }
+    ensures bytes { ReadConsumes (R.remaining reader.old) (R.remaining reader.new) result buf.new }
+{
+    for _ in 1..TRIES {
+        match reader.read(buf) {
+            Err(error) if error.kind() == ErrorKind::Interrupted => {}
+            answer => return answer,
+        }
+    }
+    reader.read(buf)
+}
+
+impl<R: Read> Source for RealSource<R> {
+    ghost left = { λ s. R.remaining s.stream };
+
+    ghost faults = { λ s. s.faults };
+
+    #[tactic(auto, using(crate::proofs::RealLaws::streams))]
+    fn read(&mut self, buf: &mut [u8]) -> Got {
+        match read_some(&mut self.reader, buf) {
+            Ok(0) => Got::End,
+            Ok(n) => Got::Bytes(n),
+            Err(_) => {
+                raise(&mut self.faults);
+                Got::Failed
+            }
+        }
+    }
+}
+
+/// A writer, as of standard output, which tells what the writer tells. Each error counts as a fault.
+#[derive(Drop)]
+pub struct RealSink<W> {
+    writer: W,
+    faults: u64,
+}
+
+impl<W> Model for RealSink<W> {
+    ghost Value = { Metered W };
+
+    ghost view = { λ s. record { stream = s.writer; faults = s.faults } };
+}
+
+impl<W> RealSink<W> {
+    pub fn new(writer: W) -> RealSink<W>
+        ensures stream { result.stream ≡ writer }
+        ensures faults { result.faults ≡ 0 }
+    {
+        RealSink { writer, faults: 0 }
+    }
+}
+
+// Writes the bytes and says how many were written: all of them, or fewer after an error.
+#[tactic(auto, using(crate::proofs::RealLaws::tries))]
+fn write_some<W: Write>(writer: &mut W, bytes: &[u8]) -> usize
+    ensures bound { result ≤ length bytes.now }
+    ensures bytes { Appends (W.contents writer.old) (W.contents writer.new) (take result bytes.now) }
+{
+    let mut done = 0;
+    for _ in 0..u64::MAX {
+        if done == bytes.len() {
+            break;
+        }
+        match writer.write(&bytes[done..]) {
+            Ok(0) => break,
+            Ok(n) => done += n,
+            Err(error) if error.kind() == ErrorKind::Interrupted => {}
+            Err(_) => break,
+        }
+    }
+    done
+}
+
+impl<W: Write> Sink for RealSink<W> {
+    ghost sent = { λ s. W.contents s.stream };
+
+    ghost faults = { λ s. s.faults };
+
+    #[tactic(auto, using(crate::proofs::RealLaws::streams))]
+    fn write(&mut self, bytes: &[u8]) -> Sent {
+        let done = write_some(&mut self.writer, bytes);
+        if self.writer.flush().is_err() || done < bytes.len() {
+            raise(&mut self.faults);
+            return Sent::Failed;
+        }
+        Sent::All
+    }
+}
+
+/// The monotonic clock. Where it cannot be read, and where it would go back, it tells its last moment again.
+#[derive(Drop)]
+pub struct RealClock<C> {
+    clock: C,
+    last: u64,
+}
+
+impl<C> Model for RealClock<C> {
+    ghost Value = { ℕ };
+
+    ghost view = { λ c. c.last };
+}
+
+impl<C> RealClock<C> {
+    pub fn new(clock: C) -> RealClock<C>
+        ensures { result ≡ 0 }
+    {
+        RealClock { clock, last: 0 }
+    }
+}
+
+impl<C: time::Clock> Clock for RealClock<C> {
+    ghost last = { λ c. c };
+
+    fn now(&mut self) -> u64 {
+        if let Ok(passed) = self.clock.monotonic() {
+            let nanos = u64::try_from(passed.as_nanos()).unwrap_or(u64::MAX);
+            self.last = self.last.max(nanos);
+        }
+        self.last
+    }
+}
