@@ -49,7 +49,9 @@ written_sound c lane k insert plane is (Some refused) some = record {
   no_packet = refl;
   all_steps = refl;
   legal = λ h rest later. later;
-  still_open = λ h. h; one_step = omega arith; one_number = omega arith;
+  still_open = λ h. h;
+  one_step = omega arith;
+  one_number = omega arith;
 }
 
 insert_sound : (c : Control) (lane k : ℕ) (insert : BridgeInsert) (o : Option Plane) → c.plane ≡ o → IsSound c (insert_answer o lane k insert)
@@ -58,7 +60,9 @@ insert_sound c lane k insert None is = record {
   no_packet = refl;
   all_steps = refl;
   legal = λ h rest later. later;
-  still_open = λ h. h; one_step = omega arith; one_number = omega arith;
+  still_open = λ h. h;
+  one_step = omega arith;
+  one_number = omega arith;
 }
 insert_sound c lane k insert (Some plane) is = written_sound c lane k insert plane is (cause plane insert) refl
 
@@ -68,7 +72,9 @@ by_sound None c lane k method = record {
   no_packet = refl;
   all_steps = refl;
   legal = λ h rest later. later;
-  still_open = λ h. h; one_step = omega arith; one_number = omega arith;
+  still_open = λ h. h;
+  one_step = omega arith;
+  one_number = omega arith;
 }
 by_sound (Some insert) c lane k method = insert_sound c lane k insert c.plane refl
 

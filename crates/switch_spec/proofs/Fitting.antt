@@ -103,8 +103,8 @@ run_played start tape =
       packets = λ lane. packets_follow lane 0 tape _ _ follows;
       out = λ lane. ap (map (λ c. c.arrival)) (none_of_controllers lane 0 tape _ _ follows) ∙ sym (no_packets_out start lane (opened start) 0 _ (history_played p tape));
       covers = λ lane.
-        let Q : List Carried → Type 0 = λ list. AllByRecursion (λ x. x.1.entry.reply.steps ≤ x.0.outcome.steps) (zip list (made_with_packet lane (made p tape))) in
-        subst Q (sym (none_of_controllers lane 0 tape _ _ follows)) tt;
+          let Q : List Carried → Type 0 = λ list. AllByRecursion (λ x. x.1.entry.reply.steps ≤ x.0.outcome.steps) (zip list (made_with_packet lane (made p tape))) in
+          subst Q (sym (none_of_controllers lane 0 tape _ _ follows)) tt;
       in_turn = in_turn_played p tape tt;
       fits = fits_played start _ p tape [] (record { control = refl; steps = refl; all_steps = refl }) end_is;
     }

@@ -1,7 +1,7 @@
 -- Readers of a value from the front of bytes: what is read stays read whatever follows, and the place of a flaw is exact.
 use Rattle.std.proofs.Common.{◌≡◌, ℕ, zero, suc, ◌+◌, ◌-◌, ◌*◌, ◌/◌, ◌%◌, ◌^◌, ◌<◌, ◌≤◌, min, Bool, true, false, cond, ltb, ◌||◌, ◌⊎◌, List, [], ◌∷◌, ◌++◌, length, take, drop, replicate, Result, Ok, Err, refl, sym, ap, subst, ◌∙◌, append_assoc, append-nil, arith, inl, inr, pow-suc, div-add-mod', mod-lt}
-use Rattle.std.proofs.lemmas.Bool.{cases_lt, ltb-false, ltb-true, le-ltb, lt-ltb, or_parts, or_cases, or_from, or_left, or_right}
-use Rattle.std.proofs.lemmas.List.{take_at, drop_at, take-append-drop, length-append, length-take, length-drop, length-replicate, take_all, drop_all}
+use Rattle.std.proofs.lemmas.Bool.{ltb-false, ltb-true, le-ltb, or_parts, or_from}
+use Rattle.std.proofs.lemmas.List.{take_at, drop_at, take-append-drop, length-append, length-take, length-replicate}
 use Rattle.std.proofs.Math.Nat.{div-eq_of_lt-le, mod-eq-sub-div-mul}
 use Rattle.switch_spec.specs.TapeReading.{◌>>=◌, number_at, bytes_at}
 

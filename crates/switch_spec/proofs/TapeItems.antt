@@ -1,5 +1,5 @@
 -- Records of a tape: what is read is spelled so, what is spelled so is read, and the place of a flaw is exact.
-use Rattle.std.proofs.Common.{◌≡◌, ℕ, zero, suc, ◌+◌, ◌-◌, ◌*◌, ◌/◌, ◌%◌, ◌^◌, ◌<◌, ◌≤◌, Bool, true, false, cond, eqb, List, [], ◌∷◌, ◌++◌, length, get_or, Option, Some, None, Result, Ok, Err, refl, sym, ap, ap₂, subst, ◌∙◌, ◌⊎◌, append_assoc, append-nil, arith, inl, inr}
+use Rattle.std.proofs.Common.{◌≡◌, ℕ, zero, suc, ◌-◌, ◌<◌, ◌≤◌, false, eqb, List, [], ◌∷◌, ◌++◌, length, get_or, Option, Some, None, Result, Ok, Err, refl, sym, ap, ap₂, subst, ◌∙◌, ◌⊎◌, arith, inl, inr}
 use Rattle.std.specs.Int.{w16, w32, to_be_bytes}
 use Rattle.std.proofs.lemmas.Bool.{ne_eqb}
 use Rattle.std.proofs.lemmas.Nat.{be_bytes_2, be_bytes_4}
@@ -7,7 +7,7 @@ use Rattle.p4_types.specs.declared.tape.TapeRecord.{TapeRecord}
 use Rattle.p4_types.specs.declared.tape.TapeRecord.TheVariants.{Call, Packet}
 use Rattle.switch_spec.specs.Tape.{record_bytes, IsCall, IsPacket, IsRecord, end_bytes}
 use Rattle.switch_spec.specs.TapeReading.{◌>>=◌, number_at, bytes_at, call_at, packet_at, end_at, item_at}
-use Rattle.switch_spec.proofs.Readers.{bind_ok, ok_is, Read, IsTaken, IsFlawed, Ends, IsReader, then, then_reader, gives, gives_reader, same_reader, digits_of, IsRange, number_found, number_again, number_reader, bytes_found, bytes_again, bytes_reader, chosen, failed, done, clash, clash_err, err_is}
+use Rattle.switch_spec.proofs.Readers.{bind_ok, ok_is, Read, IsFlawed, IsReader, then, then_reader, gives, gives_reader, same_reader, digits_of, IsRange, number_found, number_again, number_reader, bytes_found, bytes_again, bytes_reader, clash_err, err_is}
 
 -- ---- digits as bytes of a width
 

@@ -1,11 +1,11 @@
 -- The records of a tape, up to the end record: what is read, what is bad and where, and what is too many.
-use Rattle.std.proofs.Common.{◌≡◌, ℕ, zero, suc, ◌+◌, ◌-◌, ◌<◌, ◌≤◌, Bool, true, false, cond, leb, ◌&&◌, List, [], ◌∷◌, ◌++◌, length, take, Option, Some, None, Result, Ok, Err, All, flat_map, refl, sym, ap, subst, ◌∙◌, ◌⊎◌, append_assoc, append-nil, arith, inl, inr}
-use Rattle.std.proofs.lemmas.Bool.{and_parts, leb-true}
+use Rattle.std.proofs.Common.{cond, Bool, ◌≡◌, ℕ, zero, suc, ◌<◌, ◌≤◌, true, false, leb, List, [], ◌∷◌, ◌++◌, length, Option, Some, None, Result, Ok, Err, All, flat_map, refl, sym, ap, subst, ◌∙◌, append_assoc, arith, inl, inr}
+use Rattle.std.proofs.lemmas.Bool.{and_parts, and_from, leb-true, le-leb}
 use Rattle.std.proofs.lemmas.List.Elements.{All-nil, All-cons, All-head, All-tail}
 use Rattle.p4_types.specs.declared.tape.TapeRecord.{TapeRecord}
 use Rattle.p4_types.specs.declared.tape.TapeRecord.TheVariants.{Call, Packet}
 use Rattle.switch_spec.specs.Tape.{record_bytes, IsRecord, end_bytes}
-use Rattle.switch_spec.specs.TapeReading.{Flaw, Bad, TooMany, ◌>>=◌, item_at, or_bad, is_counted, begins_counted, item_within, nothing_after, with_first, records_at}
+use Rattle.switch_spec.specs.TapeReading.{Flaw, Bad, TooMany, ◌>>=◌, item_at, or_bad, begins_counted, item_within, nothing_after, with_first, records_at}
 use Rattle.switch_spec.proofs.Readers.{bind_ok, bind_err, chosen}
 use Rattle.switch_spec.proofs.TapeItems.{item_bytes, IsItem, item_found, item_again, item_flawed}
 
@@ -309,3 +309,14 @@ records_past (suc k) bytes left e =
           let f = item_found bytes d.0 (or_bad_ok (item_at bytes) d.0 d.1) in
           past_item k d.0.0 bytes d.0.1 left f.0 f.1 d.2 (λ h. records_past k d.0.1 left h)
     ]
+
+-- a record that begins behind as many as the limit is one too many
+pub past_again : (records : List TapeRecord) (kind : ℕ) (rest : List ℕ) → All IsRecord records → 1 ≤ kind → kind ≤ 5 → records_at (length records) (flat_map record_bytes records ++ kind ∷ rest) ≡ Err (TooMany (suc (length rest)))
+unfolding records_at
+past_again [] kind rest each low high =
+    let t : begins_counted (kind ∷ rest) ≡ true = and_from (leb 1 kind) (leb kind 5) (le-leb 1 kind low) (le-leb kind 5 high) in
+    ap (λ (u : Bool). cond u (many {X = Item × List ℕ} (suc (length rest))) (or_bad (item_at (kind ∷ rest))) >>= λ x. nothing_after x.1) t
+past_again (first ∷ records) kind rest each low high =
+    ap (records_at (suc (length records))) (append_assoc (record_bytes first) (flat_map record_bytes records) (kind ∷ rest))
+    ∙ records_more (length records) first (flat_map record_bytes records ++ kind ∷ rest) (All-head IsRecord first records each)
+    ∙ ap (with_first first) (past_again records kind rest (All-tail IsRecord first records each) low high)

@@ -1,14 +1,14 @@
 -- Tapes and their reading: the laws.
-use Rattle.std.proofs.Common.{◌≡◌, ℕ, zero, suc, ◌+◌, ◌-◌, ◌<◌, ◌≤◌, max, Bool, true, false, cond, eqb, List, [], ◌∷◌, ◌++◌, length, take, Result, Ok, Err, All, flat_map, refl, sym, ap, subst, ◌∙◌, ◌⊎◌, append_assoc, append-nil, arith, inl, inr}
+use Rattle.std.proofs.Common.{◌≡◌, ℕ, zero, suc, ◌+◌, ◌-◌, ◌<◌, ◌≤◌, Bool, true, false, cond, eqb, List, [], ◌∷◌, ◌++◌, length, take, Result, Ok, Err, All, flat_map, refl, sym, ap, subst, ◌∙◌, append_assoc, append-nil, arith, inl, inr}
 use Rattle.std.proofs.lemmas.Bool.{eq-eqb, eqb-true}
 use Rattle.std.proofs.lemmas.List.{take_at, length-append}
 use Rattle.std.proofs.lemmas.List.Elements.{All-nil, All-head, All-tail}
 use Rattle.p4_types.specs.declared.tape.TapeRecord.{TapeRecord}
-use Rattle.switch_spec.specs.Tape.{record_bytes, IsRecord, magic, end_bytes, tape_bytes, IsTape, BeginsTape, IsLongestBeginning, NoTapeBeginsAnother}
+use Rattle.switch_spec.specs.Tape.{record_bytes, IsRecord, magic, end_bytes, IsTape, BeginsTape, NoTapeBeginsAnother}
 use Rattle.switch_spec.specs.TapeReading.{Flaw, Bad, TooMany, ◌>>=◌, text_at, or_bad, with_first, records_at, tape_at}
-use Rattle.switch_spec.specs.TapeLaws.{IsNoTape, GoesPast, ReadIsTape, TapeIsRead, BadIsExact, TooManyIsExact}
-use Rattle.switch_spec.proofs.Readers.{bind_ok, bind_err, chosen, failed, done, clash, clash_err, err_is}
-use Rattle.switch_spec.proofs.TapeRecords.{or_bad_ok, or_bad_err, or_bad_many, fine, records_end, records_more, records_again, records_found, Completion, RecordsFlawed, records_flawed, RecordsPast, records_past}
+use Rattle.switch_spec.specs.TapeLaws.{IsNoTape, ReadIsTape, TapeIsRead, BadIsExact, TooManyIsExact, TooManyIsFound}
+use Rattle.switch_spec.proofs.Readers.{bind_ok, bind_err, chosen, failed, clash, err_is}
+use Rattle.switch_spec.proofs.TapeRecords.{or_bad_ok, or_bad_err, or_bad_many, fine, records_end, records_more, records_again, records_found, RecordsFlawed, records_flawed, records_past, past_again}
 
 -- ---- the text in front
 
@@ -243,3 +243,12 @@ begins_none bytes (m ∷ more) xs ys a b =
 
 pub no_tape_begins_another : NoTapeBeginsAnother
 no_tape_begins_another = begins_none
+
+pub too_many_is_found : TooManyIsFound
+unfolding tape_at
+too_many_is_found limit bytes left p =
+    ap (tape_at limit) p.spelled
+    ∙ ap (λ (r : Result (List ℕ) ℕ). or_bad r >>= records_at limit) (text_again magic (flat_map record_bytes p.records ++ p.kind ∷ p.rest))
+    ∙ ap (λ (n : ℕ). records_at n (flat_map record_bytes p.records ++ p.kind ∷ p.rest)) (sym p.full)
+    ∙ past_again p.records p.kind p.rest p.each p.low_kind p.high_kind
+    ∙ ap (λ (n : ℕ). Err (TooMany n)) p.place

@@ -1,8 +1,8 @@
 -- What holds of tapes and of their reading.
-use Rattle.std.specs.Prelude.{◌≡◌, ℕ, ◌-◌, ◌<◌, ◌≤◌, List, [], ◌∷◌, ◌++◌, length, Ok, Err, All}
+use Rattle.std.specs.Prelude.{◌≡◌, ℕ, ◌-◌, ◌≤◌, List, ◌∷◌, ◌++◌, length, Ok, Err, All}
 use Rattle.std.specs.List.{flat_map}
 use Rattle.p4_types.specs.declared.tape.TapeRecord.{TapeRecord}
-use Rattle.switch_spec.specs.Tape.{record_bytes, IsRecord, magic, IsTape, BeginsTape, IsLongestBeginning}
+use Rattle.switch_spec.specs.Tape.{record_bytes, IsRecord, magic, IsTape, IsLongestBeginning}
 use Rattle.switch_spec.specs.TapeReading.{Bad, TooMany, tape_at}
 
 -- the bytes are the tape of no records
@@ -36,3 +36,7 @@ BadIsExact = (limit : ℕ) (bytes : List ℕ) (left : ℕ) → tape_at limit byt
 -- too many records are as many as the limit, and one more that begins where it is said
 abbrev pub TooManyIsExact : Type 0
 TooManyIsExact = (limit : ℕ) (bytes : List ℕ) (left : ℕ) → tape_at limit bytes ≡ Err (TooMany left) → GoesPast limit bytes left
+
+-- where one record more begins than the limit allows, there are too many
+abbrev pub TooManyIsFound : Type 0
+TooManyIsFound = (limit : ℕ) (bytes : List ℕ) (left : ℕ) → GoesPast limit bytes left → tape_at limit bytes ≡ Err (TooMany left)

@@ -1,6 +1,6 @@
 //! What holds of tapes and of their reading. Each function does nothing: its contract is the law.
 ghost use Rattle.switch_spec.specs.Tape.{NoTapeBeginsAnother};
-ghost use Rattle.switch_spec.specs.TapeLaws.{ReadIsTape, TapeIsRead, BadIsExact, TooManyIsExact};
+ghost use Rattle.switch_spec.specs.TapeLaws.{ReadIsTape, TapeIsRead, BadIsExact, TooManyIsExact, TooManyIsFound};
 
 /// A tape ends where its end record does, and has one list of records.
 pub fn no_tape_begins_another()
@@ -25,4 +25,9 @@ pub fn bad_is_exact()
 /// The limit of records is passed only where a record begins behind as many.
 pub fn too_many_is_exact()
     ensures { TooManyIsExact }
+{}
+
+/// It is passed wherever one does.
+pub fn too_many_is_found()
+    ensures { TooManyIsFound }
 {}

@@ -1,0 +1,57 @@
+-- A tape within the limits is reported, unless the source or the sink fails or memory is out.
+use Rattle.std.proofs.Common.{◌≡◌, ℕ, ◌≤◌, List, length, Option, None, Some, Ok, Err, refl, ap, ◌∙◌, sym, subst, ◌⊎◌, inl, inr, arith, length-append}
+use Rattle.p4_types.specs.declared.tape.TapeRecord.{TapeRecord}
+use Rattle.sw_edge.proofs.ToldLaws.{Consumes-all}
+use Rattle.sw_edge.specs.Counts.{Rose}
+use Rattle.sw_edge.specs.Told.{Consumes}
+use Rattle.switch_spec.specs.TapeReading.{tape_at}
+use Rattle.switch_spec.proofs.Tapes.{tape_is_read}
+use Rattle.tape_form.specs.TapeRead.{IsOutcome, EndsSo, EndsWithin, judged, outcome}
+use Rattle.tape_form.specs.declared.limits.TheConstants.{MAX_TAPE, MAX_RECORDS}
+use Rattle.tape_form.specs.declared.fault.Ended.{Ended}
+use Rattle.tape_form.specs.declared.fault.Ended.TheVariants.{AtEnd, AtFault, AtLimit}
+use Rattle.tape_form.specs.declared.fault.TapeFault.{TapeFault}
+use Rattle.tape_form.specs.declared.fault.TapeFault.TheVariants as faults
+use Rattle.p4switch_run.specs.declared.status.Status.{Status}
+use Rattle.p4switch_run.specs.declared.status.Status.TheVariants as statuses
+use Rattle.p4switch_run.specs.Command.{IsCommand, status_number}
+use Rattle.p4switch_run.specs.Replay.{Streams}
+use Rattle.p4switch_run.specs.Run.{Ends, HoldsTape}
+
+-- no more is taken than there is
+taken_within : (bytes : List ℕ) (new : Option (List ℕ)) (taken : List ℕ) → Consumes (Some bytes) new taken → length taken ≤ length bytes
+taken_within bytes None taken consumed = absurd consumed
+taken_within bytes (Some rest) taken consumed = omega (arith, ap length consumed, length-append taken rest)
+
+refuted : (bytes taken : List ℕ) (records : List TapeRecord) (new : Option (List ℕ)) (before now : ℕ) (fault : TapeFault) (ended : Ended)
+    → tape_at MAX_RECORDS bytes ≡ Ok records → length bytes ≤ MAX_TAPE → Consumes (Some bytes) new taken → (Rose before now → ⊥)
+    → EndsSo ended new before now → EndsWithin ended taken → outcome taken ended ≡ Err fault → ⊥
+refuted bytes taken records new before now fault AtEnd read size consumed sound so within same =
+    let all : taken ≡ bytes = Consumes-all bytes new taken consumed so in
+    let e : Ok records ≡ Err fault =
+    sym (ap (λ r. judged (length taken) AtEnd r) (ap (tape_at MAX_RECORDS) all ∙ read)) ∙ same in
+    cc
+refuted bytes taken records new before now fault AtFault read size consumed sound so within same = sound so
+refuted bytes taken records new before now fault AtLimit read size consumed sound so within same =
+    absurd (omega (arith, taken_within bytes new taken consumed, size, within))
+
+-- such a tape is not answered with a fault but that of the source
+pub not_refused : (left new : Option (List ℕ)) (before now : ℕ) (fault : TapeFault) → HoldsTape left → (Rose before now → ⊥)
+    → (taken : List ℕ) → Consumes left new taken → IsOutcome (Err fault) taken new before now → ⊥
+not_refused left new before now fault holds sound taken consumed h =
+    let P : Option (List ℕ) → Type 0 = λ l. Consumes l new taken in
+    refuted holds.bytes taken holds.records new before now fault h.ended
+    (tape_is_read MAX_RECORDS holds.bytes holds.records holds.tape holds.count) holds.size (subst P holds.left_is consumed) sound h.so h.within h.same
+
+-- the statuses that are left
+pub complete : (status : Status) (words : List (List ℕ)) (old new : Streams) → Ends status words old new → IsCommand words → HoldsTape old.left
+    → (Rose old.read_faults new.read_faults → ⊥) → (Rose old.write_faults new.write_faults → ⊥) → (status_number status ≡ 0) ⊎ (status_number status ≡ 3)
+complete statuses.Done words old new ends command holds reads writes = inl refl
+complete (statuses.NotATape place) words old new ends command holds reads writes =
+    let read = ends.1.«because».1 in absurd (not_refused old.left new.left _ _ (faults.Bad place) holds reads read.taken read.from.consumed read.answers)
+complete statuses.WordsRefused words old new ends command holds reads writes = absurd (ends.0 command)
+complete statuses.NoMemory words old new ends command holds reads writes = inr refl
+complete statuses.ReadFault words old new ends command holds reads writes = absurd (reads ends.1.«because»)
+complete statuses.WriteFault words old new ends command holds reads writes = absurd (writes ends.1.fault)
+complete statuses.TooLong words old new ends command holds reads writes =
+    let read = ends.1.«because».1 in absurd (not_refused old.left new.left _ _ faults.TooLong holds reads read.taken read.from.consumed read.answers)

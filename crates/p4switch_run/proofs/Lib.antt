@@ -1,0 +1,7 @@
+pub mod Completeness
+pub mod InsertLemmas
+pub mod ReplayLemmas
+pub mod SessionBounds
+pub mod SessionLemmas
+pub mod TallyLemmas
+pub mod TellLemmas

@@ -1,0 +1,49 @@
+//! A tape is read, run and reported.
+ghost use Rattle.std.specs.Prelude.{◌≡◌, ◌≤◌, IfOk, length, All};
+ghost use Rattle.switch_spec.specs.Play.{played, played_report};
+ghost use Rattle.switch_spec.specs.ReportText.{report_text};
+ghost use Rattle.switch_spec.specs.Rows.{bridge_start};
+ghost use Rattle.switch_spec.specs.Tape.{IsRecord};
+ghost use Rattle.p4switch_run.specs.Replay.{Answers, streams};
+
+use crate::session::play_all;
+use crate::status::Status;
+use p4_types::code::NoMemory;
+use p4_types::list::ByteList;
+use std::alloc::Global;
+use sw_edge::{Sent, Sink, Source};
+use tape_form::{Tape, TapeFault, TapeRecord};
+
+// The report's text of a run of these records.
+fn text_of(alloc: Global, items: &[TapeRecord]) -> Result<ByteList, NoMemory>
+    requires each { All IsRecord items.now }
+    requires number { length items.now ≤ 1000000 }
+    ensures { IfOk result (λ text. text ≡ report_text (played_report (played bridge_start items.now))) }
+{
+    let report = play_all(alloc, items)?.finish(alloc);
+    tape_form::report_text(alloc, &report)
+}
+
+/// Runs the tape that the source gives over the bridge, and writes its report when all of it is made.
+pub fn replay<S: Source, O: Sink>(alloc: Global, tape: &mut S, out: &mut O) -> Status
+    ensures answers { Answers result
+        (streams (S.left tape.old) (O.sent out.old) (S.faults tape.old) (O.faults out.old))
+        (streams (S.left tape.new) (O.sent out.new) (S.faults tape.new) (O.faults out.new)) }
+    ensures reads { S.faults tape.old ≤ S.faults tape.new }
+    ensures writes { O.faults out.old ≤ O.faults out.new }
+{
+    let tape = match Tape::read(alloc, tape) {
+        Ok(tape) => tape,
+        Err(TapeFault::Bad(place)) => return Status::NotATape(place),
+        Err(TapeFault::TooLong) => return Status::TooLong,
+        Err(TapeFault::Fault) => return Status::ReadFault,
+        Err(TapeFault::NoMemory) => return Status::NoMemory,
+    };
+    let Ok(text) = text_of(alloc, tape.records()) else {
+        return Status::NoMemory;
+    };
+    match out.write(text.as_slice()) {
+        Sent::All => Status::Done,
+        Sent::Failed => Status::WriteFault,
+    }
+}

@@ -1,0 +1,39 @@
+//! How a run of the program ends.
+ghost use Rattle.std.specs.Prelude.{◌≡◌};
+
+/// How a run ends, and with which exit status.
+#[derive(Clone, Copy)]
+pub enum Status {
+    /// 0: the tape was read whole and its report was written.
+    Done,
+    /// 1: the bytes are no tape; the longest front of them with which some tape begins has so many bytes.
+    NotATape(u64),
+    /// 2: the words are not in the grammar.
+    WordsRefused,
+    /// 3: there was no memory.
+    NoMemory,
+    /// 4: the tape's source failed.
+    ReadFault,
+    /// 5: the report's sink failed.
+    WriteFault,
+    /// 6: the tape has more bytes or records than a tape may have.
+    TooLong,
+}
+
+impl Status {
+    ghost use Rattle.p4switch_run.specs.Command.{status_number};
+
+    pub fn number(self) -> u8
+        ensures { result ≡ status_number self }
+    {
+        match self {
+            Status::Done => 0,
+            Status::NotATape(_) => 1,
+            Status::WordsRefused => 2,
+            Status::NoMemory => 3,
+            Status::ReadFault => 4,
+            Status::WriteFault => 5,
+            Status::TooLong => 6,
+        }
+    }
+}

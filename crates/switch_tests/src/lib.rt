@@ -1,0 +1,5 @@
+//! Tests of the crates above the leaves, over their public items: outside rows, and faults of the outside.
+#![tactic(auto)]
+
+#[cfg(test)]
+mod rows;

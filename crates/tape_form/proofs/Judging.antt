@@ -1,0 +1,179 @@
+-- What the answer to bytes says of them.
+use Rattle.std.proofs.Common.{◌≡◌, ℕ, zero, suc, ◌-◌, ◌≤◌, ◌<◌, Bool, true, false, cond, eqb, List, length, Option, Result, Ok, Err, refl, sym, ap, subst, ◌∙◌, ◌⊎◌, arith, inl, inr}
+use Rattle.std.specs.Prelude.{IfOk, IsErrOf}
+use Rattle.p4_types.specs.declared.tape.TapeRecord.{TapeRecord}
+use Rattle.sw_edge.specs.Counts.{Rose}
+use Rattle.switch_spec.specs.Tape.{IsLongestBeginning}
+use Rattle.switch_spec.specs.TapeReading.{Flaw, Bad, TooMany, tape_at}
+use Rattle.switch_spec.proofs.Tapes.{read_is_tape, bad_is_exact, too_many_is_exact}
+use Rattle.tape_form.specs.declared.limits.TheConstants.{MAX_TAPE, MAX_RECORDS}
+use Rattle.tape_form.specs.declared.fault.TapeFault.{TapeFault}
+use Rattle.tape_form.specs.declared.fault.TapeFault.TheVariants as faults
+use Rattle.tape_form.specs.declared.fault.Ended.{Ended}
+use Rattle.tape_form.specs.declared.fault.Ended.TheVariants.{AtEnd, AtFault, AtLimit}
+use Rattle.tape_form.specs.TapeRead.{InLimits, EndsWithin, EndsSo, when_whole, when_short, when_bad, judged, IsReadFrom, IsWholeTape, IsBadAt, IsTooLong}
+
+pub whole_within : (ended : Ended) (bytes : List ℕ) (records : List TapeRecord) → EndsWithin ended bytes → tape_at MAX_RECORDS bytes ≡ Ok records → ended ≡ AtEnd → InLimits records
+whole_within ended bytes records within e end =
+    let r = read_is_tape MAX_RECORDS bytes records e in
+    let size : length bytes ≤ MAX_TAPE = subst (λ (n : Ended). EndsWithin n bytes) end within in
+    record { each = r.0.each; count = r.1; size = subst (λ (w : List ℕ). length w ≤ MAX_TAPE) r.0.spelled size }
+
+pub left_within : (bytes : List ℕ) (left : ℕ) → tape_at MAX_RECORDS bytes ≡ Err (Bad left) → left ≤ length bytes
+left_within bytes left e = (bad_is_exact MAX_RECORDS bytes left e).1
+
+-- ---- what each answer comes from
+
+abbrev Answer : Type 0
+Answer = Result (List TapeRecord) TapeFault
+
+whole_ok : (records found : List TapeRecord) (ended : Ended) → when_whole records ended ≡ Ok found → (records ≡ found) × (ended ≡ AtEnd)
+whole_ok records found AtEnd e = (cc, refl)
+whole_ok records found AtFault e = absurd cc
+whole_ok records found AtLimit e = absurd cc
+
+short_ok : (taken : ℕ) (found : List TapeRecord) (ended : Ended) → when_short taken ended ≡ Ok found → ⊥
+short_ok taken found AtEnd e = absurd cc
+short_ok taken found AtFault e = absurd cc
+short_ok taken found AtLimit e = absurd cc
+
+abbrev fault : TapeFault → Answer
+fault f = Err f
+
+abbrev good : List TapeRecord → Answer
+good records = Ok records
+
+tells : {f : TapeFault} {records : List TapeRecord} → fault f ≡ good records → ⊥
+tells e = absurd cc
+
+bad_or_fault : {place : ℕ} → fault (faults.Bad place) ≡ fault faults.Fault → ⊥
+bad_or_fault e = absurd cc
+
+long_or_fault : fault faults.TooLong ≡ fault faults.Fault → ⊥
+long_or_fault e = absurd cc
+
+bad_or_long : {place : ℕ} → fault (faults.Bad place) ≡ fault faults.TooLong → ⊥
+bad_or_long e = absurd cc
+
+one_place : (a b : ℕ) → fault (faults.Bad a) ≡ fault (faults.Bad b) → a ≡ b
+one_place a b e = cc
+
+at_limit : (place : ℕ) (t : Bool) → eqb place MAX_TAPE ≡ t → (when_bad place AtLimit ≡ Err (faults.Bad place)) ⊎ ((when_bad place AtLimit ≡ Err faults.TooLong) × (AtLimit ≡ AtLimit))
+at_limit place true e = inr (ap (λ (t : Bool). cond t (fault faults.TooLong) (fault (faults.Bad place))) e, refl)
+at_limit place false e = inl (ap (λ (t : Bool). cond t (fault faults.TooLong) (fault (faults.Bad place))) e)
+
+-- a bad byte is answered by its place, or by the limit in its place
+bad_is : (place : ℕ) (ended : Ended) → (when_bad place ended ≡ Err (faults.Bad place)) ⊎ ((when_bad place ended ≡ Err faults.TooLong) × (ended ≡ AtLimit))
+bad_is place AtEnd = inl refl
+bad_is place AtFault = inl refl
+bad_is place AtLimit = at_limit place (eqb place MAX_TAPE) refl
+
+judged_ok : (taken : ℕ) (ended : Ended) (read : Result (List TapeRecord) Flaw) (found : List TapeRecord) → judged taken ended read ≡ Ok found → (read ≡ Ok found) × (ended ≡ AtEnd)
+judged_ok taken ended (Ok records) found e = let w = whole_ok records found ended e in (ap (λ (x : List TapeRecord). Ok x) w.0, w.1)
+judged_ok taken ended (Err (TooMany left)) found e = absurd cc
+judged_ok taken ended (Err (Bad zero)) found e = absurd (short_ok taken found ended e)
+judged_ok taken ended (Err (Bad (suc left))) found e =
+    elim (bad_is (taken - suc left) ended) [ inl b ↦ absurd (tells (sym b ∙ e)) | inr b ↦ absurd (tells (sym b.0 ∙ e)) ]
+
+judged_fault : (taken : ℕ) (ended : Ended) (read : Result (List TapeRecord) Flaw) → judged taken ended read ≡ Err faults.Fault → ended ≡ AtFault
+judged_fault taken AtEnd (Ok records) e = absurd cc
+judged_fault taken AtFault (Ok records) e = refl
+judged_fault taken AtLimit (Ok records) e = absurd cc
+judged_fault taken ended (Err (TooMany left)) e = absurd cc
+judged_fault taken AtEnd (Err (Bad zero)) e = absurd cc
+judged_fault taken AtFault (Err (Bad zero)) e = refl
+judged_fault taken AtLimit (Err (Bad zero)) e = absurd cc
+judged_fault taken ended (Err (Bad (suc left))) e =
+    elim (bad_is (taken - suc left) ended) [ inl b ↦ absurd (bad_or_fault (sym b ∙ e)) | inr b ↦ absurd (long_or_fault (sym b.0 ∙ e)) ]
+
+judged_long : (taken : ℕ) (ended : Ended) (read : Result (List TapeRecord) Flaw) → judged taken ended read ≡ Err faults.TooLong → (ended ≡ AtLimit) ⊎ ((left : ℕ) × (read ≡ Err (TooMany left)))
+judged_long taken AtEnd (Ok records) e = absurd cc
+judged_long taken AtFault (Ok records) e = absurd cc
+judged_long taken AtLimit (Ok records) e = inl refl
+judged_long taken ended (Err (TooMany left)) e = inr (left, refl)
+judged_long taken AtEnd (Err (Bad zero)) e = absurd cc
+judged_long taken AtFault (Err (Bad zero)) e = absurd cc
+judged_long taken AtLimit (Err (Bad zero)) e = inl refl
+judged_long taken ended (Err (Bad (suc left))) e =
+    elim (bad_is (taken - suc left) ended) [ inl b ↦ absurd (bad_or_long (sym b ∙ e)) | inr b ↦ inl b.1 ]
+
+-- what a bad place comes from
+record FromBad (taken : ℕ) (ended : Ended) (read : Result (List TapeRecord) Flaw) (place : ℕ) : Type 0 where
+  left : ℕ
+  bad : read ≡ Err (Bad left)
+  at : taken - left ≡ place
+  shown : (0 < left) ⊎ (ended ≡ AtEnd)
+
+judged_bad : (taken : ℕ) (ended : Ended) (read : Result (List TapeRecord) Flaw) (place : ℕ) → judged taken ended read ≡ Err (faults.Bad place) → FromBad taken ended read place
+judged_bad taken AtEnd (Ok records) place e = absurd cc
+judged_bad taken AtFault (Ok records) place e = absurd cc
+judged_bad taken AtLimit (Ok records) place e = absurd cc
+judged_bad taken ended (Err (TooMany left)) place e = absurd cc
+judged_bad taken AtEnd (Err (Bad zero)) place e = let same : taken ≡ place = cc in record { left = 0; bad = refl; at = omega arith; shown = inr refl }
+judged_bad taken AtFault (Err (Bad zero)) place e = absurd cc
+judged_bad taken AtLimit (Err (Bad zero)) place e = absurd cc
+judged_bad taken ended (Err (Bad (suc left))) place e =
+    elim (bad_is (taken - suc left) ended) [
+      | inl b ↦ record { left = suc left; bad = refl; at = one_place (taken - suc left) place (sym b ∙ e); shown = inl (omega arith) }
+      | inr b ↦ absurd (bad_or_long (sym e ∙ b.0))
+    ]
+
+-- ---- what the answer to a source says
+
+read_tape : (old new : Option (List ℕ)) (before now : ℕ) (records : List TapeRecord) → IsReadFrom old new before now (Ok records) → IsWholeTape old new records
+read_tape old new before now records r =
+    let o = r.answers in
+    let j = judged_ok (length r.taken) o.ended (tape_at MAX_RECORDS r.taken) records o.same in
+    let t = read_is_tape MAX_RECORDS r.taken records j.0 in
+    record {
+      taken = r.taken;
+      consumed = r.from.consumed;
+      tape = t.0;
+      at_end = subst (λ (n : Ended). EndsSo n new before now) j.1 o.so;
+      size = subst (λ (n : Ended). EndsWithin n r.taken) j.1 o.within;
+      count = t.1;
+    }
+
+pub whole_tape : (old new : Option (List ℕ)) (before now : ℕ) (answer : Result (List TapeRecord) TapeFault) → IsReadFrom old new before now answer → IfOk answer (λ records. IsWholeTape old new records)
+whole_tape old new before now (Ok records) r = read_tape old new before now records r
+whole_tape old new before now (Err _) r = tt
+
+pub bad_at : (old new : Option (List ℕ)) (before now place : ℕ) → IsReadFrom old new before now (Err (faults.Bad place)) → IsBadAt old new place
+bad_at old new before now place r =
+    let o = r.answers in
+    let b = judged_bad (length r.taken) o.ended (tape_at MAX_RECORDS r.taken) place o.same in
+    let x = bad_is_exact MAX_RECORDS r.taken b.left b.bad in
+    record {
+      taken = r.taken;
+      consumed = r.from.consumed;
+      exact = subst (IsLongestBeginning r.taken) b.at x.0;
+      no_tape = x.2;
+      shown = elim b.shown [ inl pos ↦ inl (omega (arith, b.at, x.1)) | inr end ↦ inr (subst (λ (n : Ended). EndsSo n new before now) end o.so) ];
+    }
+
+pub too_long : (old new : Option (List ℕ)) (before now : ℕ) → IsReadFrom old new before now (Err faults.TooLong) → IsTooLong old new
+too_long old new before now r =
+    let o = r.answers in
+    record {
+      taken = r.taken;
+      consumed = r.from.consumed;
+      past = elim (judged_long (length r.taken) o.ended (tape_at MAX_RECORDS r.taken) o.same) [
+        | inl end ↦ inl (let size : length r.taken ≡ suc MAX_TAPE = subst (λ (n : Ended). EndsWithin n r.taken) end o.within in omega arith)
+        | inr m ↦ inr (m.0, too_many_is_exact MAX_RECORDS r.taken m.0 m.1)
+      ];
+    }
+
+pub fault_rose : (old new : Option (List ℕ)) (before now : ℕ) → IsReadFrom old new before now (Err faults.Fault) → Rose before now
+fault_rose old new before now r =
+    let o = r.answers in
+    subst (λ (n : Ended). EndsSo n new before now) (judged_fault (length r.taken) o.ended (tape_at MAX_RECORDS r.taken) o.same) o.so
+
+-- the same, of any answer
+pub if_bad : (old new : Option (List ℕ)) (before now : ℕ) (answer : Result (List TapeRecord) TapeFault) → IsReadFrom old new before now answer → (place : ℕ) → IsErrOf answer (faults.Bad place) → IsBadAt old new place
+if_bad old new before now answer r place e = bad_at old new before now place (subst (IsReadFrom old new before now) e r)
+
+pub if_too_long : (old new : Option (List ℕ)) (before now : ℕ) (answer : Result (List TapeRecord) TapeFault) → IsReadFrom old new before now answer → IsErrOf answer faults.TooLong → IsTooLong old new
+if_too_long old new before now answer r e = too_long old new before now (subst (IsReadFrom old new before now) e r)
+
+pub if_fault : (old new : Option (List ℕ)) (before now : ℕ) (answer : Result (List TapeRecord) TapeFault) → IsReadFrom old new before now answer → IsErrOf answer faults.Fault → Rose before now
+if_fault old new before now answer r e = fault_rose old new before now (subst (IsReadFrom old new before now) e r)

@@ -1,0 +1,4 @@
+use Rattle.tape_form.proofs.parse.+number_at.Given as goal
+
+abbrev pub decreases-number_at : goal.decreases-number_at
+decreases-number_at l = l.count

@@ -1,0 +1,3 @@
+pub mod LaneLines
+pub mod Parsed
+pub mod TapeRead

@@ -1,0 +1,118 @@
+-- What a tape is that was read from a source, and which answer comes first (this project's profile).
+use Rattle.std.specs.Prelude.{◌≡◌, ℕ, zero, suc, ◌-◌, ◌<◌, ◌≤◌, ◌==◌, if◌then◌else◌, ◌⊎◌, List, length, Option, Result, Ok, Err, All, ⊤}
+use Rattle.p4_types.specs.declared.tape.TapeRecord.{TapeRecord}
+use Rattle.sw_edge.specs.Counts.{Rose}
+use Rattle.sw_edge.specs.Told.{Consumes, IsAtEnd}
+use Rattle.switch_spec.specs.Tape.{IsRecord, tape_bytes, IsTape, IsLongestBeginning}
+use Rattle.switch_spec.specs.TapeLaws.{IsNoTape, GoesPast}
+use Rattle.switch_spec.specs.TapeReading.{Flaw, Bad, TooMany, tape_at}
+use Rattle.tape_form.specs.declared.limits.TheConstants.{MAX_TAPE, MAX_RECORDS}
+use Rattle.tape_form.specs.declared.fault.TapeFault.{TapeFault}
+use Rattle.tape_form.specs.declared.fault.TapeFault.TheVariants as faults
+use Rattle.tape_form.specs.declared.fault.Ended.{Ended}
+use Rattle.tape_form.specs.declared.fault.Ended.TheVariants.{AtEnd, AtFault, AtLimit}
+
+-- the records of a tape within the limits
+pub record InLimits (records : List TapeRecord) : Type 0 where
+  pub each : All IsRecord records
+  pub count : length records ≤ MAX_RECORDS
+  pub size : length (tape_bytes records) ≤ MAX_TAPE
+
+-- the answer where the bytes that were taken are a tape
+abbrev pub when_whole : List TapeRecord → Ended → Result (List TapeRecord) TapeFault
+when_whole records AtEnd = Ok records
+when_whole records AtFault = Err faults.Fault
+when_whole records AtLimit = Err faults.TooLong
+
+-- the answer where they begin a tape, but are none
+abbrev pub when_short : ℕ → Ended → Result (List TapeRecord) TapeFault
+when_short taken AtEnd = Err (faults.Bad taken)
+when_short taken AtFault = Err faults.Fault
+when_short taken AtLimit = Err faults.TooLong
+
+-- the answer to a bad byte; where the limit of bytes has its place, the limit is answered
+abbrev pub when_bad : ℕ → Ended → Result (List TapeRecord) TapeFault
+when_bad place AtEnd = Err (faults.Bad place)
+when_bad place AtFault = Err (faults.Bad place)
+when_bad place AtLimit = if place == MAX_TAPE then Err faults.TooLong else Err (faults.Bad place)
+
+-- the answer to what so many bytes were read as
+abbrev pub judged : ℕ → Ended → Result (List TapeRecord) Flaw → Result (List TapeRecord) TapeFault
+judged taken ended (Ok records) = when_whole records ended
+judged taken ended (Err (TooMany left)) = Err faults.TooLong
+judged taken ended (Err (Bad zero)) = when_short taken ended
+judged taken ended (Err (Bad (suc left))) = when_bad (taken - suc left) ended
+
+-- The answer to the bytes that were taken: the first of a bad byte, a limit and a fault in the order of the bytes.
+-- The limit of bytes has the place behind as many, the limit of records that before the record past it.
+abbrev pub outcome : List ℕ → Ended → Result (List TapeRecord) TapeFault
+outcome taken ended = judged (length taken) ended (tape_at MAX_RECORDS taken)
+
+-- no more bytes were taken than the end of the taking allows
+abbrev pub EndsWithin : Ended → List ℕ → Type 0
+EndsWithin AtEnd taken = length taken ≤ MAX_TAPE
+EndsWithin AtFault taken = length taken ≤ MAX_TAPE
+EndsWithin AtLimit taken = length taken ≡ suc MAX_TAPE
+
+-- nothing is left, or the source's faults rose
+abbrev pub EndsSo : Ended → Option (List ℕ) → ℕ → ℕ → Type 0
+EndsSo AtEnd new before now = IsAtEnd new
+EndsSo AtFault new before now = Rose before now
+EndsSo AtLimit new before now = ⊤
+
+-- a claim of an answer, unless memory ran out
+abbrev pub UnlessNoMemory : Result (List TapeRecord) TapeFault → Type 0 → Type 0
+UnlessNoMemory (Ok records) claim = claim
+UnlessNoMemory (Err faults.NoMemory) claim = ⊤
+UnlessNoMemory (Err (faults.Bad place)) claim = claim
+UnlessNoMemory (Err faults.TooLong) claim = claim
+UnlessNoMemory (Err faults.Fault) claim = claim
+
+-- the answer is the outcome of what was taken, as the taking ended
+pub record IsOutcome (answer : Result (List TapeRecord) TapeFault) (taken : List ℕ) (new : Option (List ℕ)) (before now : ℕ) : Type 0 where
+  pub ended : Ended
+  pub so : EndsSo ended new before now
+  pub within : EndsWithin ended taken
+  pub same : outcome taken ended ≡ answer
+
+-- bytes were taken from the source, no more than one behind the limit
+pub record IsTakenFrom (old new : Option (List ℕ)) (taken : List ℕ) : Type 0 where
+  pub consumed : Consumes old new taken
+  pub size : length taken ≤ suc MAX_TAPE
+
+-- Bytes were taken from the source, no more than one behind the limit, and the answer is their outcome, unless memory ran out.
+pub record IsReadFrom (old new : Option (List ℕ)) (before now : ℕ) (answer : Result (List TapeRecord) TapeFault) : Type 0 where
+  pub taken : List ℕ
+  pub from : IsTakenFrom old new taken
+  pub answers : UnlessNoMemory answer (IsOutcome answer taken new before now)
+
+-- all that was left was taken, and it is the tape of these records
+pub record IsWholeTape (old new : Option (List ℕ)) (records : List TapeRecord) : Type 0 where
+  pub taken : List ℕ
+  pub consumed : Consumes old new taken
+  pub tape : IsTape taken records
+  pub at_end : IsAtEnd new
+  pub size : length taken ≤ MAX_TAPE
+  pub count : length records ≤ MAX_RECORDS
+
+-- what was taken is no tape, and none begins with more of it than so many bytes
+pub record IsBadAt (old new : Option (List ℕ)) (place : ℕ) : Type 0 where
+  pub taken : List ℕ
+  pub consumed : Consumes old new taken
+  pub exact : IsLongestBeginning taken place
+  pub no_tape : IsNoTape taken
+  pub shown : (place < length taken) ⊎ IsAtEnd new
+
+-- what was taken has more bytes than a tape may have, or as many records as it may have and one more that begins
+pub record IsTooLong (old new : Option (List ℕ)) : Type 0 where
+  pub taken : List ℕ
+  pub consumed : Consumes old new taken
+  pub past : (MAX_TAPE < length taken) ⊎ ((left : ℕ) × GoesPast MAX_RECORDS taken left)
+
+-- the answer to a source that gives the tape of these records and nothing else: they, a fault, or want of memory
+abbrev pub IsAnswerToTape : List TapeRecord → Result (List TapeRecord) TapeFault → Type 0
+IsAnswerToTape records (Ok found) = found ≡ records
+IsAnswerToTape records (Err faults.NoMemory) = ⊤
+IsAnswerToTape records (Err faults.Fault) = ⊤
+IsAnswerToTape records (Err (faults.Bad place)) = ⊥
+IsAnswerToTape records (Err faults.TooLong) = ⊥

@@ -1,0 +1,215 @@
+// A tape's records from its bytes.
+ghost use Rattle.std.specs.Prelude.{◌≡◌, ◌<◌, ◌≤◌, ◌^◌, ℕ, IfOk, []};
+ghost use Rattle.switch_spec.specs.TapeReading.{number_at, bytes_at, call_at, packet_at, end_at, item_at, text_at, nothing_after, records_at, tape_at};
+ghost use Rattle.tape_form.specs.Parsed.{Gives, GivesAll};
+ghost use Rattle.tape_form.specs.declared.parse.ReadFault.TheVariants as faults;
+
+use p4_types::list::ByteList;
+use p4_types::tape::TapeRecord;
+use std::alloc::{AllocError, AllocFailed, Global};
+
+/// Why bytes were not read; a place is given by the number of bytes left from it on.
+#[derive(Clone, Copy)]
+pub enum ReadFault {
+    NoMemory,
+    /// The first bad byte; 0 where bytes are missing.
+    Bad(usize),
+    /// The first byte of a record past the limit.
+    TooMany(usize),
+}
+
+impl From<AllocError> for ReadFault {
+    ghost from_gives = { λ _ e. e ≡ faults.NoMemory };
+
+    fn from(_: AllocError) -> ReadFault {
+        ReadFault::NoMemory
+    }
+}
+
+impl<T: Drop> From<AllocFailed<T>> for ReadFault {
+    ghost from_gives = { λ _ e. e ≡ faults.NoMemory };
+
+    fn from(failed: AllocFailed<T>) -> ReadFault {
+        drop(failed);
+        ReadFault::NoMemory
+    }
+}
+
+/// A big-endian number of so many bytes, from `low` to `high`, and the bytes after it.
+fn number_at(count: u32, low: u32, high: u32, bytes: &[u8]) -> Result<(u32, &[u8]), ReadFault>
+    requires few { count ≤ 4 }
+    requires order { low ≤ high }
+    requires fits { high < 256 ^ count }
+    ensures gives { Gives (λ x. (x.0, x.1.now)) result (number_at count low high bytes.now) }
+    ensures within { IfOk result (λ x. (low ≤ x.0) × (x.0 ≤ high)) }
+{
+    if count == 0 {
+        return Ok((0, bytes));
+    }
+    let [first, rest @ ..] = bytes else {
+        return Err(ReadFault::Bad(0));
+    };
+    let unit = 256u32.pow(count - 1);
+    let start = u32::from(*first) * unit;
+    if high < start || start + (unit - 1) < low {
+        return Err(ReadFault::Bad(bytes.len()));
+    }
+    let (digits, rest) = number_at(
+        count - 1,
+        low.saturating_sub(start),
+        (high - start).min(unit - 1),
+        rest,
+    )?;
+    Ok((start + digits, rest))
+}
+
+/// So many bytes, and the bytes after them.
+#[tactic(auto, unfolding(switch_spec::specs::TapeReading::bytes_at))]
+fn bytes_at(alloc: Global, count: usize, bytes: &[u8]) -> Result<(ByteList, &[u8]), ReadFault>
+    ensures { Gives (λ x. (x.0, x.1.now)) result (bytes_at count bytes.now) }
+{
+    if bytes.len() < count {
+        return Err(ReadFault::Bad(0));
+    }
+    let (front, rest) = bytes.split_at(count);
+    Ok((ByteList::from_vec(Vec::from_slice(alloc, front)?), rest))
+}
+
+/// What stands behind the kind of a call.
+#[tactic(auto, unfolding(switch_spec::specs::TapeReading::call_at))]
+fn call_at(alloc: Global, bytes: &[u8]) -> Result<(TapeRecord, &[u8]), ReadFault>
+    ensures { Gives (λ x. (x.0, x.1.now)) result (call_at bytes.now) }
+{
+    let (lane, rest) = number_at(2, 0, 31, bytes)?;
+    let (size, rest) = number_at(4, 1, 8_388_609, rest)?;
+    let (method, rest) = number_at(1, 1, 6, rest)?;
+    let (message, rest) = bytes_at(alloc, size as usize - 1, rest)?;
+    let record = TapeRecord::Call {
+        lane: lane as u16,
+        method: method as u8,
+        message,
+    };
+    Ok((record, rest))
+}
+
+/// What stands behind the kind of a packet.
+#[tactic(auto, unfolding(switch_spec::specs::TapeReading::packet_at))]
+fn packet_at(alloc: Global, bytes: &[u8]) -> Result<(TapeRecord, &[u8]), ReadFault>
+    ensures { Gives (λ x. (x.0, x.1.now)) result (packet_at bytes.now) }
+{
+    let (lane, rest) = number_at(2, 0, 15, bytes)?;
+    let (size, rest) = number_at(4, 2, 9218, rest)?;
+    let (port, rest) = number_at(2, 0, 510, rest)?;
+    let (packet, rest) = bytes_at(alloc, size as usize - 2, rest)?;
+    let record = TapeRecord::Packet {
+        lane: lane as u16,
+        port: port as u16,
+        packet,
+    };
+    Ok((record, rest))
+}
+
+/// What stands behind the kind of the end record.
+#[tactic(auto, unfolding(switch_spec::specs::TapeReading::end_at))]
+fn end_at(bytes: &[u8]) -> Result<&[u8], ReadFault>
+    ensures { Gives (λ x. x.now) result (end_at bytes.now) }
+{
+    let (_, rest) = number_at(2, 0, 0, bytes)?;
+    let (_, rest) = number_at(4, 0, 0, rest)?;
+    Ok(rest)
+}
+
+/// A record, or none for the end record, and the bytes after it.
+#[tactic(auto, unfolding(switch_spec::specs::TapeReading::item_at))]
+fn item_at(alloc: Global, bytes: &[u8]) -> Result<(Option<TapeRecord>, &[u8]), ReadFault>
+    ensures { Gives (λ x. (x.0, x.1.now)) result (item_at bytes.now) }
+{
+    match bytes {
+        [] => Err(ReadFault::Bad(0)),
+        [0, rest @ ..] => {
+            let rest = end_at(rest)?;
+            Ok((None, rest))
+        }
+        [1, rest @ ..] => {
+            let (call, rest) = call_at(alloc, rest)?;
+            Ok((Some(call), rest))
+        }
+        [2, rest @ ..] => {
+            let (packet, rest) = packet_at(alloc, rest)?;
+            Ok((Some(packet), rest))
+        }
+        [_, ..] => Err(ReadFault::Bad(bytes.len())),
+    }
+}
+
+/// The bytes behind this text.
+#[tactic(auto, unfolding(switch_spec::specs::TapeReading::text_at))]
+fn text_at<'a>(text: &[u8], bytes: &'a [u8]) -> Result<&'a [u8], ReadFault>
+    ensures { Gives (λ x. x.now) result (text_at text.now bytes.now) }
+{
+    let mut rest = bytes;
+    for wanted in text {
+        match rest {
+            [] => return Err(ReadFault::Bad(0)),
+            [first, after @ ..] => {
+                if *first != *wanted {
+                    return Err(ReadFault::Bad(rest.len()));
+                }
+                rest = after;
+            }
+        }
+    }
+    Ok(rest)
+}
+
+/// The records, up to the end record, behind which nothing stands.
+fn records_at(alloc: Global, limit: u32, bytes: &[u8]) -> Result<Vec<TapeRecord>, ReadFault>
+    ensures { GivesAll (λ x. x.items) result (records_at limit bytes.now) }
+{
+    let mut records = Vec::new(alloc);
+    let mut rest = bytes;
+    for _ in 0..limit {
+        let (item, after) = item_at(alloc, rest)?;
+        match item {
+            Some(record) => records.push(record)?,
+            None => {
+                nothing_in(after)?;
+                return Ok(records);
+            }
+        }
+        rest = after;
+    }
+    end_alone(alloc, rest)?;
+    Ok(records)
+}
+
+/// No bytes are left.
+fn nothing_in(rest: &[u8]) -> Result<(), ReadFault>
+    ensures { GivesAll (λ _. []) result (nothing_after rest.now) }
+{
+    if !rest.is_empty() {
+        return Err(ReadFault::Bad(rest.len()));
+    }
+    Ok(())
+}
+
+/// The end record alone is left: behind the last record that may stand on a tape.
+#[tactic(auto, unfolding(switch_spec::specs::TapeReading::records_at))]
+fn end_alone(alloc: Global, rest: &[u8]) -> Result<(), ReadFault>
+    ensures { GivesAll (λ _. []) result (records_at 0 rest.now) }
+{
+    if let [1..=5, ..] = rest {
+        return Err(ReadFault::TooMany(rest.len()));
+    }
+    let (_, after) = item_at(alloc, rest)?;
+    nothing_in(after)
+}
+
+/// The records of the tape that the bytes are.
+#[tactic(auto, unfolding(switch_spec::specs::TapeReading::tape_at))]
+pub(crate) fn tape_at(alloc: Global, limit: u32, bytes: &[u8]) -> Result<Vec<TapeRecord>, ReadFault>
+    ensures { GivesAll (λ x. x.items) result (tape_at limit bytes.now) }
+{
+    let rest = text_at(b"P4TAPE1\n", bytes)?;
+    records_at(alloc, limit, rest)
+}

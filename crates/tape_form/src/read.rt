@@ -1,0 +1,142 @@
+// A tape from a source.
+ghost use Rattle.std.specs.Prelude.{◌≡◌, ◌≤◌, ℕ, List, IfOk, IfErr, IsErrOf, length};
+ghost use Rattle.switch_spec.specs.Tape.{tape_bytes};
+ghost use Rattle.sw_edge.specs.Counts.{HasCause};
+ghost use Rattle.tape_form.specs.TapeRead.{InLimits, UnlessNoMemory, outcome, when_whole, when_short, when_bad, EndsWithin, EndsSo, IsTakenFrom, IsReadFrom, IsWholeTape, IsBadAt, IsTooLong, IsAnswerToTape};
+
+use crate::fault::{Ended, TapeFault};
+use crate::limits::{MAX_RECORDS, MAX_TAPE};
+use crate::parse::{ReadFault, tape_at};
+use p4_types::tape::TapeRecord;
+use std::alloc::{AllocError, Global};
+use std::marker::Model;
+use sw_edge::{Got, Source};
+
+/// How many bytes are read at once.
+const PIECE: usize = 65_536;
+
+/// A tape: its records in their order, in the grammar and within the limits.
+#[derive(Drop)]
+pub struct Tape {
+    records: Vec<TapeRecord>,
+}
+
+impl Model for Tape {
+    ghost use Rattle.std.specs.Prelude.{List};
+    ghost use Rattle.p4_types.specs.declared.tape.TapeRecord.{TapeRecord};
+    ghost use Rattle.tape_form.specs.TapeRead.{InLimits};
+
+    ghost Value = { List TapeRecord };
+
+    ghost view = { λ tape. tape.records.items };
+
+    ghost invariant = { λ tape. InLimits tape.records.items };
+}
+
+impl Tape {
+    /// Reads a tape from a source, up to its end, or one byte more than a tape may have. Answered is
+    /// the first of a bad byte, a limit and a fault, in the order of the bytes.
+    pub fn read<S: Source>(alloc: Global, source: &mut S) -> Result<Tape, TapeFault>
+        ensures exact { IsReadFrom (S.left source.old) (S.left source.new) (S.faults source.old) (S.faults source.new) result }
+        ensures tape { IfOk result (λ tape. IsWholeTape (S.left source.old) (S.left source.new) tape) }
+        ensures bad { (place : ℕ) → IsErrOf result (TapeFault.Bad place) → IsBadAt (S.left source.old) (S.left source.new) place }
+        ensures too_long { IsErrOf result TapeFault.TooLong → IsTooLong (S.left source.old) (S.left source.new) }
+        ensures fault { HasCause (S.faults source.old) (S.faults source.new) (IsErrOf result TapeFault.Fault) }
+        ensures complete { (records : List TapeRecord) → InLimits records → S.left source.old ≡ Some (tape_bytes records) → IsAnswerToTape records result }
+    {
+        read_from(alloc, source)
+    }
+
+    /// The records in their order, the end record left out.
+    pub fn records(&self) -> &[TapeRecord]
+        ensures value { result.now ≡ self.now }
+        ensures limits { InLimits self.now }
+    {
+        self.records.as_slice()
+    }
+}
+
+/// Room for what is read at once.
+fn piece_of(alloc: Global) -> Result<Vec<u8>, AllocError>
+    ensures { IfOk result (λ piece. length piece.items ≡ PIECE) }
+{
+    vec![in alloc; 0u8; PIECE]
+}
+
+/// All bytes that are left, up to one more than a tape may have, and how their reading ended.
+fn take_bytes<S: Source>(alloc: Global, source: &mut S) -> Result<(Vec<u8>, Ended), AllocError>
+    ensures ok { IfOk result (λ x. IsTakenFrom (S.left source.old) (S.left source.new) x.0.items) }
+    ensures ended { IfOk result (λ x. EndsSo x.1 (S.left source.new) (S.faults source.old) (S.faults source.new)) }
+    ensures within { IfOk result (λ x. EndsWithin x.1 x.0.items) }
+    ensures no_memory { IfErr result (λ _. (taken : List ℕ) × IsTakenFrom (S.left source.old) (S.left source.new) taken) }
+    ensures later { S.faults source.old ≤ S.faults source.new }
+{
+    let mut bytes = Vec::new(alloc);
+    let mut piece = piece_of(alloc)?;
+    let buffer = piece.as_mut_slice();
+    while bytes.len() <= MAX_TAPE {
+        let room = PIECE.min(MAX_TAPE + 1 - bytes.len());
+        match source.read(&mut buffer[..room]) {
+            Got::Bytes(count) => bytes.extend_from_slice(&buffer[..count])?,
+            Got::End => return Ok((bytes, Ended::AtEnd)),
+            Got::Failed => return Ok((bytes, Ended::AtFault)),
+        }
+    }
+    Ok((bytes, Ended::AtLimit))
+}
+
+/// The answer where the bytes are a tape.
+fn whole(records: Vec<TapeRecord>, ended: Ended) -> Result<Tape, TapeFault>
+    requires { ended ≡ Ended.AtEnd → InLimits records.items }
+    ensures { when_whole records.items ended ≡ result }
+{
+    match ended {
+        Ended::AtEnd => Ok(Tape { records }),
+        Ended::AtFault => Err(TapeFault::Fault),
+        Ended::AtLimit => Err(TapeFault::TooLong),
+    }
+}
+
+/// The answer where the bytes begin a tape, but are none.
+fn short(taken: usize, ended: Ended) -> Result<Tape, TapeFault>
+    ensures { when_short taken ended ≡ result }
+{
+    match ended {
+        Ended::AtEnd => Err(TapeFault::Bad(taken as u64)),
+        Ended::AtFault => Err(TapeFault::Fault),
+        Ended::AtLimit => Err(TapeFault::TooLong),
+    }
+}
+
+/// The answer to a bad byte.
+fn bad(place: usize, ended: Ended) -> Result<Tape, TapeFault>
+    ensures { when_bad place ended ≡ result }
+{
+    match ended {
+        Ended::AtLimit if place == MAX_TAPE => Err(TapeFault::TooLong),
+        _ => Err(TapeFault::Bad(place as u64)),
+    }
+}
+
+/// The tape that the bytes are, or the answer to them.
+fn judge(alloc: Global, bytes: &[u8], ended: Ended) -> Result<Tape, TapeFault>
+    requires { EndsWithin ended bytes.now }
+    ensures { UnlessNoMemory result (outcome bytes.now ended ≡ result) }
+{
+    match tape_at(alloc, MAX_RECORDS, bytes) {
+        Ok(records) => whole(records, ended),
+        Err(ReadFault::NoMemory) => Err(TapeFault::NoMemory),
+        Err(ReadFault::TooMany(_)) => Err(TapeFault::TooLong),
+        Err(ReadFault::Bad(0)) => short(bytes.len(), ended),
+        Err(ReadFault::Bad(left)) => bad(bytes.len() - left, ended),
+    }
+}
+
+/// The tape that the source gives, or the answer to what it gives.
+fn read_from<S: Source>(alloc: Global, source: &mut S) -> Result<Tape, TapeFault>
+    ensures exact { IsReadFrom (S.left source.old) (S.left source.new) (S.faults source.old) (S.faults source.new) result }
+    ensures later { S.faults source.old ≤ S.faults source.new }
+{
+    let (bytes, ended) = take_bytes(alloc, source)?;
+    judge(alloc, bytes.as_slice(), ended)
+}
