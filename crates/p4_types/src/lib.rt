@@ -8,5 +8,6 @@ pub mod events;
 pub mod journal;
 pub mod list;
 pub mod messages;
+pub mod p4info;
 pub mod records;
 pub mod tape;

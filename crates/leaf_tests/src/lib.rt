@@ -1,0 +1,9 @@
+//! Tests of the public items of the crates at the bottom. What is expected comes from outside of them.
+#![tactic(auto)]
+
+#[cfg(test)]
+mod edge;
+#[cfg(test)]
+mod fields;
+#[cfg(test)]
+mod vectors;
