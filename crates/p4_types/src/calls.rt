@@ -13,7 +13,8 @@ pub enum Call {
     Read(ReadRequest),
     Set(SetForwardingPipelineConfigRequest),
     Get(GetForwardingPipelineConfigRequest),
-    Stream(StreamMessageRequest),
+    /// A message of the stream channel, which may have no member.
+    Stream(Option<StreamMessageRequest>),
     Capabilities,
     /// A message that is not read, with its method: 1 Write, 2 Read, 3 Set, 4 Get, 5 Stream, 6 Capabilities.
     Unreadable(u8),

@@ -1,6 +1,7 @@
-//! The messages of P4Runtime 1.3.0 that a client sends, with the names of their fields; `match` is
-//! `matches`, `type` is `kind` and `data` is `content`. Enumerations keep their numbers, since a
-//! message may bear any number.
+//! The messages of P4Runtime 1.3.0, with the names of their fields; `match` is `matches`, `type` is
+//! `kind` and `data` is `content`. Enumerations keep their numbers, since a message may bear any number.
+//! A message that may be absent is an `Option`; a choice is an enum of its members, with `None` where
+//! none is given.
 use crate::list::{ByteList, List, Text};
 
 /// A number of 128 bits, as an election id.
@@ -43,7 +44,8 @@ pub enum Entity {
 pub struct TableEntry {
     pub table_id: u32,
     pub matches: List<FieldMatch>,
-    pub action: Option<TableAction>,
+    /// Absent; or given, where the choice in it may have no member.
+    pub action: Option<Option<TableAction>>,
     pub priority: i32,
     pub controller_metadata: u64,
     pub meter_config: bool,
@@ -215,6 +217,15 @@ pub struct MasterArbitrationUpdate {
     pub device_id: u64,
     pub role: Option<Role>,
     pub election_id: Uint128,
+    pub status: Option<Status>,
+}
+
+/// `google.rpc.Status`.
+#[derive(Drop)]
+pub struct Status {
+    pub code: i32,
+    pub message: Text,
+    pub details: List<Any>,
 }
 
 #[derive(Drop)]
@@ -245,6 +256,77 @@ pub struct PacketMetadata {
 pub struct DigestListAck {
     pub digest_id: u32,
     pub list_id: u64,
+}
+
+#[derive(Drop)]
+pub struct PacketIn {
+    pub payload: ByteList,
+    pub metadata: List<PacketMetadata>,
+}
+
+/// A bitstring, or a struct of bitstrings.
+#[derive(Drop)]
+pub enum P4Data {
+    Bitstring(ByteList),
+    Struct(List<ByteList>),
+}
+
+#[derive(Drop)]
+pub struct DigestList {
+    pub digest_id: u32,
+    pub list_id: u64,
+    pub content: List<P4Data>,
+    /// In nanoseconds.
+    pub timestamp: i64,
+}
+
+#[derive(Drop)]
+pub struct IdleTimeoutNotification {
+    pub table_entry: List<TableEntry>,
+    /// In nanoseconds.
+    pub timestamp: i64,
+}
+
+/// `p4.v1.Error`.
+#[derive(Drop)]
+pub struct Error {
+    pub canonical_code: i32,
+    pub message: Text,
+    pub space: Text,
+    pub code: i32,
+    pub details: List<Any>,
+}
+
+#[derive(Drop)]
+pub struct StreamError {
+    pub canonical_code: i32,
+    pub message: Text,
+    pub space: Text,
+    pub code: i32,
+    pub details: Option<StreamErrorDetails>,
+}
+
+/// The message that a stream error speaks of.
+#[derive(Drop)]
+pub enum StreamErrorDetails {
+    PacketOut(PacketOut),
+    DigestListAck(DigestListAck),
+    Other(Any),
+}
+
+#[derive(Drop)]
+pub struct ReadResponse {
+    pub entities: List<Entity>,
+}
+
+#[derive(Drop)]
+pub struct GetForwardingPipelineConfigResponse {
+    pub config: Option<ForwardingPipelineConfig>,
+}
+
+#[derive(Drop)]
+pub struct CapabilitiesResponse {
+    pub p4runtime_api_version: Text,
 }
 
 /// What a controller is told on its stream channel. No call that is served by now makes one.

@@ -5,8 +5,9 @@ use Rattle.std.proofs.lemmas.Bool.{ne_eqb}
 use Rattle.std.proofs.lemmas.Nat.{be_bytes_2, be_bytes_4}
 use Rattle.p4_types.specs.declared.tape.TapeRecord.{TapeRecord}
 use Rattle.p4_types.specs.declared.tape.TapeRecord.TheVariants.{Call, Packet}
+use Rattle.wire_fields.specs.Reading.{◌>>=◌}
 use Rattle.switch_spec.specs.Tape.{record_bytes, IsCall, IsPacket, IsRecord, end_bytes}
-use Rattle.switch_spec.specs.TapeReading.{◌>>=◌, number_at, bytes_at, call_at, packet_at, end_at, item_at}
+use Rattle.switch_spec.specs.TapeReading.{number_at, bytes_at, call_at, packet_at, end_at, item_at}
 use Rattle.switch_spec.proofs.Readers.{bind_ok, ok_is, Read, IsFlawed, IsReader, then, then_reader, gives, gives_reader, same_reader, digits_of, IsRange, number_found, number_again, number_reader, bytes_found, bytes_again, bytes_reader, clash_err, err_is}
 
 -- ---- digits as bytes of a width

@@ -4,8 +4,9 @@ use Rattle.std.proofs.lemmas.Bool.{and_parts, and_from, leb-true, le-leb}
 use Rattle.std.proofs.lemmas.List.Elements.{All-nil, All-cons, All-head, All-tail}
 use Rattle.p4_types.specs.declared.tape.TapeRecord.{TapeRecord}
 use Rattle.p4_types.specs.declared.tape.TapeRecord.TheVariants.{Call, Packet}
+use Rattle.wire_fields.specs.Reading.{◌>>=◌}
 use Rattle.switch_spec.specs.Tape.{record_bytes, IsRecord, end_bytes}
-use Rattle.switch_spec.specs.TapeReading.{Flaw, Bad, TooMany, ◌>>=◌, item_at, or_bad, begins_counted, item_within, nothing_after, with_first, records_at}
+use Rattle.switch_spec.specs.TapeReading.{Flaw, Bad, TooMany, item_at, or_bad, begins_counted, item_within, nothing_after, with_first, records_at}
 use Rattle.switch_spec.proofs.Readers.{bind_ok, bind_err, chosen}
 use Rattle.switch_spec.proofs.TapeItems.{item_bytes, IsItem, item_found, item_again, item_flawed}
 

@@ -4,8 +4,9 @@ use Rattle.std.proofs.lemmas.Bool.{eq-eqb, eqb-true}
 use Rattle.std.proofs.lemmas.List.{take_at, length-append}
 use Rattle.std.proofs.lemmas.List.Elements.{All-nil, All-head, All-tail}
 use Rattle.p4_types.specs.declared.tape.TapeRecord.{TapeRecord}
+use Rattle.wire_fields.specs.Reading.{◌>>=◌}
 use Rattle.switch_spec.specs.Tape.{record_bytes, IsRecord, magic, end_bytes, IsTape, BeginsTape, NoTapeBeginsAnother}
-use Rattle.switch_spec.specs.TapeReading.{Flaw, Bad, TooMany, ◌>>=◌, text_at, or_bad, with_first, records_at, tape_at}
+use Rattle.switch_spec.specs.TapeReading.{Flaw, Bad, TooMany, text_at, or_bad, with_first, records_at, tape_at}
 use Rattle.switch_spec.specs.TapeLaws.{IsNoTape, ReadIsTape, TapeIsRead, BadIsExact, TooManyIsExact, TooManyIsFound}
 use Rattle.switch_spec.proofs.Readers.{bind_ok, bind_err, chosen, failed, clash, err_is}
 use Rattle.switch_spec.proofs.TapeRecords.{or_bad_ok, or_bad_err, or_bad_many, fine, records_end, records_more, records_again, records_found, RecordsFlawed, records_flawed, records_past, past_again}

@@ -2,6 +2,7 @@
 use Rattle.std.specs.Prelude.{ℕ, zero, suc, ◌+◌, ◌-◌, ◌*◌, ◌^◌, min, nat_lt, nat_le, ◌==◌, ◌||◌, ◌&&◌, Bool, if◌then◌else◌, List, [], ◌∷◌, length, take, drop, Option, Some, None, Result, Ok, Err}
 use Rattle.p4_types.specs.declared.tape.TapeRecord.{TapeRecord}
 use Rattle.p4_types.specs.declared.tape.TapeRecord.TheVariants.{Call, Packet}
+use Rattle.wire_fields.specs.Reading.{◌>>=◌}
 use Rattle.switch_spec.specs.Tape.{magic}
 
 -- what keeps bytes from being a tape within the limit of records, and how many bytes are left from there on
@@ -10,11 +11,6 @@ pub data Flaw : Type 0 where
   Bad : (left : ℕ) → Flaw
   -- the first byte of a record past the limit
   TooMany : (left : ℕ) → Flaw
-
-infixl 10 ◌>>=◌
-abbrev pub ◌>>=◌ : {A B E : Type 0} → Result A E → (A → Result B E) → Result B E
-(Ok x) >>= f = f x
-(Err e) >>= f = Err e
 
 -- A big-endian number of so many bytes, at least low and at most high, and the bytes after it. A byte is bad
 -- as soon as no number of that range begins with the bytes up to it.

@@ -2,7 +2,8 @@
 use Rattle.std.proofs.Common.{◌≡◌, ℕ, suc, ◌-◌, ◌+◌, ◌<◌, List, [], ◌∷◌, ◌++◌, length, get_or, drop, Option, Some, None, Result, Ok, Err, refl, sym, ap, ◌∙◌, append_assoc, append-nil, arith}
 use Rattle.std.proofs.lemmas.List.{nil_from_length, drop_more}
 use Rattle.p4_types.specs.declared.tape.TapeRecord.{TapeRecord}
-use Rattle.switch_spec.specs.TapeReading.{Flaw, ◌>>=◌, or_bad, item_at, nothing_after, with_first, records_at, text_at}
+use Rattle.wire_fields.specs.Reading.{◌>>=◌}
+use Rattle.switch_spec.specs.TapeReading.{Flaw, or_bad, item_at, nothing_after, with_first, records_at, text_at}
 use Rattle.tape_form.specs.declared.parse.ReadFault.{ReadFault}
 use Rattle.tape_form.specs.declared.parse.ReadFault.TheVariants as faults
 use Rattle.tape_form.specs.Parsed.{Fails, IsFlaw}
