@@ -2,6 +2,8 @@
 #![tactic(auto)]
 
 #[cfg(test)]
+mod byte_strings;
+#[cfg(test)]
 mod edge;
 #[cfg(test)]
 mod fields;

@@ -1,18 +1,20 @@
 // The journal's lines of a report, call by call.
 ghost use Rattle.std.specs.Prelude.{◌≡◌, ◌+◌, ◌++◌, ℕ, List, IfOk, OnOk, length, sum_by, string_bytes};
+ghost use Rattle.std.specs.List.{flat_map};
 ghost use Rattle.switch_spec.specs.ReportText.{notice_line, reply_line, step_line, step_lines, entry_lines, journal_lines};
 
-use crate::report::lines::{AsLine, push_lines};
 use crate::report::words::{kind_name, push_list};
 use p4_types::calls::Notice;
 use p4_types::journal::{Entry, Step};
 use std::alloc::{AllocError, Global};
 
-impl AsLine for Notice {
-    ghost text = { notice_line };
-
-    fn push_line(&self, _alloc: Global, _out: &mut String) -> Result<(), AllocError> {
-        match self.message {}
+/// Adds the lines of a call's notices. There is no notice yet that could be one of them.
+fn push_notices(out: &mut String, notices: &[Notice]) -> Result<(), AllocError>
+    ensures { OnOk result (string_bytes out.new ≡ string_bytes out.old ++ flat_map notice_line notices.now) }
+{
+    match notices {
+        [] => out.push_str(""),
+        [notice, ..] => match notice.message {},
     }
 }
 
@@ -78,7 +80,7 @@ fn push_entry(
     ensures count { IfOk result (λ after. after ≡ before + length entry.now.steps) }
 {
     let after = push_steps(out, before, entry.lane, entry.call, entry.steps.as_slice())?;
-    push_lines(alloc, out, entry.reply.notices.as_slice())?;
+    push_notices(out, entry.reply.notices.as_slice())?;
     push_reply(alloc, out, entry)?;
     Ok(after)
 }

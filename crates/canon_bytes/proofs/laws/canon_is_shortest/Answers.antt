@@ -1,0 +1,5 @@
+use Rattle.canon_bytes.proofs.Canons.{canon_is_shortest}
+use Rattle.canon_bytes.proofs.laws.canon_is_shortest.Goals as goal
+
+pub returns : goal.returns
+returns c = canon_is_shortest
