@@ -92,3 +92,23 @@ digits_again (suc more) (b ∷ c ∷ front) rest ends short fits =
 
 pub varint_again : (front rest : List ℕ) (value : ℕ) → IsVarint front value → varint_at (front ++ rest) ≡ Ok (value, rest)
 varint_again front rest value is = rw is.value_is (digits_again 9 front rest is.ends is.short (rw (← is.value_is) is.fits))
+
+shorter_in : (more : ℕ) (bytes : List ℕ) (value : ℕ) (rest : List ℕ) → varint_in more bytes ≡ Ok (value, rest) → length rest < length bytes
+unfolding varint_in
+shorter_in zero [] value rest e = absurd cc
+shorter_in zero (b ∷ bytes) value rest e =
+    let g = guard_ok (ltb 1 b) VarintLong (b, bytes) (value, rest) e in
+    subst (λ (x : ℕ × List ℕ). length x.1 < length (b ∷ bytes)) g.1 (omega arith)
+shorter_in (suc more) [] value rest e = absurd cc
+shorter_in (suc more) (b ∷ bytes) value rest e =
+    elim (chosen (ltb b 128) (Ok (b, bytes)) (varint_in more bytes >>= λ high. Ok (b % 128 + 128 * high.0, high.1)) (Ok (value, rest)) e) [
+      | inl h ↦ subst (λ (x : ℕ × List ℕ). length x.1 < length (b ∷ bytes)) (ok_is (b, bytes) (value, rest) h.1) (omega arith)
+      | inr h ↦
+          let high = bind_ok (varint_in more bytes) (λ high. Ok (b % 128 + 128 * high.0, high.1)) (value, rest) h.1 in
+          let shorter = shorter_in more bytes high.0.0 high.0.1 high.1 in
+          subst (λ (x : ℕ × List ℕ). length x.1 < length (b ∷ bytes)) (ok_is (b % 128 + 128 * high.0.0, high.0.1) (value, rest) high.2) (omega arith)
+    ]
+
+-- a varint takes a byte at least
+pub varint_shorter : (bytes : List ℕ) (value : ℕ) (rest : List ℕ) → varint_at bytes ≡ Ok (value, rest) → length rest < length bytes
+varint_shorter bytes value rest e = shorter_in 9 bytes value rest e

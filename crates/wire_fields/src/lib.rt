@@ -8,5 +8,6 @@ mod wire;
 mod writing;
 
 pub use cursor::Fields;
+pub use reading::varint;
 pub use wire::{Field, WireFault};
 pub use writing::Writer;

@@ -20,7 +20,8 @@ fn byte(bytes: &[u8]) -> Result<(u8, &[u8]), WireFault>
     }
 }
 
-fn varint(bytes: &[u8]) -> Result<(u64, &[u8]), WireFault>
+/// A varint, and the bytes after it.
+pub fn varint(bytes: &[u8]) -> Result<(u64, &[u8]), WireFault>
     ensures { Gives (λ x. (x.0, x.1.now)) result (varint_at bytes.now) }
 {
     let mut value: u64 = 0;

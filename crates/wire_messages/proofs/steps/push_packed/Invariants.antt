@@ -1,0 +1,10 @@
+use Rattle.std.proofs.Common.{length}
+use Rattle.wire_messages.specs.Scans.{packed_from}
+use Rattle.wire_messages.proofs.Packed.{Packed}
+use Rattle.wire_messages.proofs.steps.push_packed.Given as goal
+
+abbrev pub invariant-loop-left : goal.invariant-loop-left
+invariant-loop-left l = Packed l.left l.found.items (packed_from l.initial.found.items l.bytes)
+
+abbrev pub decreases-loop-left : goal.decreases-loop-left
+decreases-loop-left l = length l.left

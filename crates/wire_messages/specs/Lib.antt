@@ -1,0 +1,4 @@
+pub mod Message
+pub mod Numbers
+pub mod Answers
+pub mod Scans
