@@ -8,4 +8,6 @@ mod edge;
 #[cfg(test)]
 mod fields;
 #[cfg(test)]
+mod messages;
+#[cfg(test)]
 mod vectors;
