@@ -1,0 +1,6 @@
+pub mod MessageFields
+pub mod Nested
+pub mod Entities
+pub mod Requests
+pub mod Stream
+pub mod Calls

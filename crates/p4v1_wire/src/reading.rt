@@ -1,0 +1,128 @@
+//! What the readers of messages share.
+ghost use Rattle.std.specs.Prelude.{◌≡◌, Some, map};
+ghost use Rattle.std.specs.Prelude as spec;
+ghost use Rattle.p4v1_wire.specs.MessageFields.{fields_of};
+ghost use Rattle.p4v1_wire.specs.Nested.{read, one_at, all_at, inside_at, member_at, opaque_at};
+ghost use Rattle.wire_fields.specs.Fields.{WireField};
+ghost use Rattle.wire_messages.specs.Answers.{Reads, ReadsInMemory};
+ghost use Rattle.wire_messages.specs.Message.{each, bytes_at, text_at};
+
+use p4_types::list::{ByteList, List, Text};
+use std::alloc::Global;
+use wire_messages::{Message, ReadError, Unreadable};
+
+/// A message that is read by its fields.
+pub(crate) trait Readable: Drop {
+    ghost meaning: { spec.List WireField → spec.Option Self };
+
+    fn read(alloc: Global, message: &Message<'_>) -> Result<Self, ReadError>
+        ensures { ReadsInMemory (λ x. x) result (meaning message.now) };
+}
+
+pub(crate) fn fields<'a>(alloc: Global, bytes: &'a [u8]) -> Result<Message<'a>, ReadError>
+    ensures { ReadsInMemory (λ message. message) result (fields_of bytes.now) }
+{
+    Message::read(alloc, bytes)
+}
+
+pub(crate) fn from_bytes<T: Readable>(alloc: Global, bytes: &[u8]) -> Result<T, ReadError>
+    ensures { ReadsInMemory (λ x. x) result (read T.meaning bytes.now) }
+{
+    let message = fields(alloc, bytes)?;
+    T::read(alloc, &message)
+}
+
+#[tactic(auto, unfolding(crate::specs::Nested::one_at))]
+pub(crate) fn one<T: Readable>(
+    alloc: Global,
+    message: &Message<'_>,
+    number: u32,
+) -> Result<Option<T>, ReadError>
+    ensures { ReadsInMemory (λ x. x) result (one_at T.meaning number message.now) }
+{
+    match message.message(number)? {
+        Some(bytes) => Ok(Some(from_bytes(alloc, bytes)?)),
+        None => Ok(None),
+    }
+}
+
+fn each_of<T: Readable>(alloc: Global, messages: &[&[u8]]) -> Result<List<T>, ReadError>
+    ensures { ReadsInMemory (λ x. x) result (each (read T.meaning) (map (λ x. x.now) messages.now)) }
+{
+    let mut list = List::new(alloc);
+    for bytes in messages {
+        list.push(from_bytes(alloc, bytes)?)?;
+    }
+    Ok(list)
+}
+
+#[tactic(auto, unfolding(crate::specs::Nested::all_at))]
+pub(crate) fn all<T: Readable>(
+    alloc: Global,
+    message: &Message<'_>,
+    number: u32,
+) -> Result<List<T>, ReadError>
+    ensures { ReadsInMemory (λ x. x) result (all_at T.meaning number message.now) }
+{
+    let messages = message.messages(alloc, number)?;
+    each_of(alloc, messages.as_slice())
+}
+
+#[tactic(auto, unfolding(crate::specs::Nested::inside_at))]
+pub(crate) fn inside<'a>(
+    alloc: Global,
+    message: &Message<'a>,
+    number: u32,
+) -> Result<Message<'a>, ReadError>
+    ensures { ReadsInMemory (λ x. x) result (inside_at number message.now) }
+{
+    match message.message(number)? {
+        Some(bytes) => fields(alloc, bytes),
+        None => Err(ReadError::Unreadable),
+    }
+}
+
+#[tactic(auto, unfolding(crate::specs::Nested::member_at))]
+pub(crate) fn member<T: Readable>(
+    alloc: Global,
+    message: &Message<'_>,
+    number: u32,
+) -> Result<T, ReadError>
+    ensures { ReadsInMemory (λ x. x) result (member_at T.meaning number message.now) }
+{
+    let inside = inside(alloc, message, number)?;
+    T::read(alloc, &inside)
+}
+
+#[tactic(auto, unfolding(crate::specs::Nested::opaque_at))]
+pub(crate) fn opaque(message: &Message<'_>, number: u32) -> Result<bool, Unreadable>
+    ensures { Reads (λ x. x) result (opaque_at number message.now) }
+{
+    Ok(message.message(number)?.is_some())
+}
+
+pub(crate) fn copied(alloc: Global, bytes: &[u8]) -> Result<ByteList, ReadError>
+    ensures { ReadsInMemory (λ list. list) result (Some bytes.now) }
+{
+    let mut list = List::new(alloc);
+    list.extend_from_slice(bytes)?;
+    Ok(list)
+}
+
+pub(crate) fn bytes(
+    alloc: Global,
+    message: &Message<'_>,
+    number: u32,
+) -> Result<ByteList, ReadError>
+    ensures { ReadsInMemory (λ list. list) result (bytes_at number message.now) }
+{
+    copied(alloc, message.bytes(number)?)
+}
+
+pub(crate) fn text(alloc: Global, message: &Message<'_>, number: u32) -> Result<Text, ReadError>
+    ensures { ReadsInMemory (λ text. text) result (text_at number message.now) }
+{
+    let mut text = String::new(alloc);
+    text.push_str(message.text(number)?)?;
+    Ok(Text::from_string(text))
+}
