@@ -17,12 +17,27 @@ const CALLS: [(&str, u8, &str, &str); 12] = [
     ("a write with an unknown field", 1, "3001", "unreadable"),
     ("an update with an unknown field", 1, "22021801", "write"),
     ("an election id given twice", 1, "1a001a00", "unreadable"),
-    ("two kinds of match", 1, "220a12081206120412002200", "unreadable"),
+    (
+        "two kinds of match",
+        1,
+        "220a12081206120412002200",
+        "unreadable",
+    ),
     ("a read", 2, "0801", "read"),
     ("a set with an unknown field", 3, "3001", "unreadable"),
     ("a get", 4, "1001", "get"),
-    ("a stream message without a member", 5, "", "stream message of no kind"),
-    ("capabilities with an unknown field", 6, "0801", "capabilities"),
+    (
+        "a stream message without a member",
+        5,
+        "",
+        "stream message of no kind",
+    ),
+    (
+        "capabilities with an unknown field",
+        6,
+        "0801",
+        "capabilities",
+    ),
 ];
 
 fn told_of_write(request: &WriteRequest) -> &'static str {
