@@ -1,7 +1,7 @@
 //! Messages of a client, and the calls that they are.
 use p4_types::calls::Call;
 use p4_types::messages::{Entity, WriteRequest};
-use p4v1_wire::read_call;
+use p4v1_read::read_call;
 use std::test::Fail;
 
 // A name, the method, the message in hex, and what it is told to be.

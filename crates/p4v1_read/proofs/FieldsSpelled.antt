@@ -12,7 +12,7 @@ use Rattle.wire_messages.specs.Answers.{ReadsInMemory}
 use Rattle.wire_messages.specs.Message.{◌>>=◌}
 use Rattle.wire_messages.specs.declared.errors.ReadError.{ReadError}
 use Rattle.wire_messages.specs.declared.errors.ReadError.TheVariants.{NoMemory, Unreadable}
-use Rattle.p4v1_wire.specs.MessageFields.{fields_in, fields_of, FieldsAreSpelled}
+use Rattle.p4v1_read.specs.MessageFields.{fields_in, fields_of, FieldsAreSpelled}
 
 -- a step that gave something
 bind_some : {A B : Type 0} (r : Option A) (f : A → Option B) (y : B) → (r >>= f) ≡ Some y → (x : A) × (r ≡ Some x) × (f x ≡ Some y)

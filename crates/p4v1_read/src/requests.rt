@@ -1,6 +1,6 @@
 //! Requests, each read by the fields of its message.
 ghost use Rattle.std.specs.Prelude.{◌≡◌, [], ◌∷◌};
-ghost use Rattle.p4v1_wire.specs.Requests.{uint128_of, election_id_at, update_of, write_request_of, read_request_of, cookie_of, config_of, set_request_of, get_request_of};
+ghost use Rattle.p4v1_read.specs.Requests.{uint128_of, election_id_at, update_of, write_request_of, read_request_of, cookie_of, config_of, set_request_of, get_request_of};
 ghost use Rattle.wire_messages.specs.Answers.{ReadsInMemory};
 ghost use Rattle.wire_messages.specs.Message.{message_at};
 

@@ -1,8 +1,8 @@
 //! What the readers of messages share.
 ghost use Rattle.std.specs.Prelude.{◌≡◌, Some, map};
 ghost use Rattle.std.specs.Prelude as spec;
-ghost use Rattle.p4v1_wire.specs.MessageFields.{fields_of};
-ghost use Rattle.p4v1_wire.specs.Nested.{read, one_at, all_at, inside_at, member_at, opaque_at};
+ghost use Rattle.p4v1_read.specs.MessageFields.{fields_of};
+ghost use Rattle.p4v1_read.specs.Nested.{read, one_at, all_at, inside_at, member_at, opaque_at};
 ghost use Rattle.wire_fields.specs.Fields.{WireField};
 ghost use Rattle.wire_messages.specs.Answers.{Reads, ReadsInMemory};
 ghost use Rattle.wire_messages.specs.Message.{each, bytes_at, text_at};

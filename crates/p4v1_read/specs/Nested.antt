@@ -3,7 +3,7 @@ use Rattle.std.specs.Prelude.{ℕ, Bool, List, Option, Some, None, is_some}
 use Rattle.std.specs.Option.{option_map}
 use Rattle.wire_fields.specs.Fields.{WireField}
 use Rattle.wire_messages.specs.Message.{◌>>=◌, each, message_at, messages_at}
-use Rattle.p4v1_wire.specs.MessageFields.{fields_of}
+use Rattle.p4v1_read.specs.MessageFields.{fields_of}
 
 -- a message in bytes, by what its fields say
 abbrev pub read : {A : Type 0} → (List WireField → Option A) → List ℕ → Option A

@@ -1,6 +1,6 @@
 //! Messages of the stream channel, each read by its fields.
 ghost use Rattle.std.specs.Prelude.{◌≡◌, [], ◌∷◌};
-ghost use Rattle.p4v1_wire.specs.Stream.{any_of, status_of, role_of, arbitration_of, metadata_of, packet_out_of, digest_ack_of, stream_by, stream_of};
+ghost use Rattle.p4v1_read.specs.Stream.{any_of, status_of, role_of, arbitration_of, metadata_of, packet_out_of, digest_ack_of, stream_by, stream_of};
 ghost use Rattle.wire_messages.specs.Answers.{ReadsInMemory};
 
 use crate::reading;

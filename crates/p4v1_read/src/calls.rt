@@ -1,6 +1,6 @@
 //! The call that a client's message is.
 ghost use Rattle.std.specs.Prelude.{◌≡◌, IfOk, option_map};
-ghost use Rattle.p4v1_wire.specs.Calls.{call_by, call_of};
+ghost use Rattle.p4v1_read.specs.Calls.{call_by, call_of};
 ghost use Rattle.wire_messages.specs.Answers.{ReadsInMemory};
 
 use crate::reading;

@@ -2,10 +2,10 @@
 use Rattle.std.specs.Prelude.{ℕ, ◌==◌, if◌then◌else◌, List, Option, None, option_map, unwrap_or}
 use Rattle.p4_types.specs.declared.calls.Call.{Call}
 use Rattle.p4_types.specs.declared.calls.Call.TheVariants as calls
-use Rattle.p4v1_wire.specs.MessageFields.{fields_of}
-use Rattle.p4v1_wire.specs.Nested.{read}
-use Rattle.p4v1_wire.specs.Requests.{write_request_of, read_request_of, set_request_of, get_request_of}
-use Rattle.p4v1_wire.specs.Stream.{stream_of}
+use Rattle.p4v1_read.specs.MessageFields.{fields_of}
+use Rattle.p4v1_read.specs.Nested.{read}
+use Rattle.p4v1_read.specs.Requests.{write_request_of, read_request_of, set_request_of, get_request_of}
+use Rattle.p4v1_read.specs.Stream.{stream_of}
 
 -- The call of a method, where its message is read: 1 Write, 2 Read, 3 Set, 4 Get, 5 a stream message, 6 Capabilities.
 unfoldable pub call_by : ℕ → List ℕ → Option Call

@@ -11,8 +11,8 @@ use Rattle.p4_types.specs.declared.messages.Update.{Update}
 use Rattle.p4_types.specs.declared.messages.WriteRequest.{WriteRequest}
 use Rattle.wire_fields.specs.Fields.{WireField}
 use Rattle.wire_messages.specs.Message.{◌>>=◌, uint64_at, int32_at, bytes_at, message_at, only_known}
-use Rattle.p4v1_wire.specs.Nested.{one_at, all_at}
-use Rattle.p4v1_wire.specs.Entities.{entity_of}
+use Rattle.p4v1_read.specs.Nested.{one_at, all_at}
+use Rattle.p4v1_read.specs.Entities.{entity_of}
 
 -- Uint128
 unfoldable pub uint128_of : List WireField → Option Uint128

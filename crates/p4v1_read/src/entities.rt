@@ -1,8 +1,8 @@
 //! Entities, each read by the fields of its message.
 ghost use Rattle.std.specs.Prelude.{◌≡◌, [], ◌∷◌};
-ghost use Rattle.p4v1_wire.specs.Entities.{param_of, action_of, exact_of, ternary_of, lpm_of, range_of, optional_of, kind_by, kind_of, field_match_of, profile_action_of, action_set_of, table_action_by, table_action_of, counter_data_of, table_entry_of, profile_member_of, group_member_of, profile_group_of, index_of, counter_entry_of, direct_counter_entry_of, digest_config_of, digest_entry_of, entity_by, entity_of};
+ghost use Rattle.p4v1_read.specs.Entities.{param_of, action_of, exact_of, ternary_of, lpm_of, range_of, optional_of, kind_by, kind_of, field_match_of, profile_action_of, action_set_of, table_action_by, table_action_of, counter_data_of, table_entry_of, profile_member_of, group_member_of, profile_group_of, index_of, counter_entry_of, direct_counter_entry_of, digest_config_of, digest_entry_of, entity_by, entity_of};
 ghost use Rattle.wire_messages.specs.Answers.{ReadsInMemory};
-ghost use Rattle.p4v1_wire.specs.Nested.{member_at};
+ghost use Rattle.p4v1_read.specs.Nested.{member_at};
 
 use crate::reading;
 use crate::reading::Readable;
