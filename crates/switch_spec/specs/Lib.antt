@@ -14,3 +14,6 @@ pub mod Tape
 pub mod TapeLaws
 pub mod TapeReading
 pub mod Text
+pub mod Objects
+pub mod Entries
+pub mod UpdateRules

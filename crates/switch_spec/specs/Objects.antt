@@ -1,0 +1,16 @@
+-- The objects of a program by their ids (P4Runtime 1.3.0, "P4Info Message").
+use Rattle.std.specs.Prelude.{ℕ, ◌==◌, Option, find}
+use Rattle.p4_types.specs.declared.info.Action.{Action}
+use Rattle.p4_types.specs.declared.info.Info.{Info}
+use Rattle.p4_types.specs.declared.info.MatchField.{MatchField}
+use Rattle.p4_types.specs.declared.info.Param.{Param}
+use Rattle.p4_types.specs.declared.info.Table.{Table}
+
+abbrev pub table_of : ℕ → Info → Option Table
+table_of id info = find (λ table. table.preamble.id == id) info.tables
+
+abbrev pub action_of : ℕ → Info → Option Action
+action_of id info = find (λ action. action.preamble.id == id) info.actions
+
+abbrev pub field_of : ℕ → Table → Option MatchField
+field_of id table = find (λ field. field.id == id) table.match_fields
