@@ -1,5 +1,5 @@
 -- The entries of the tables: which one a key takes, and what changes them (P4Runtime 1.3.0, "Table entries").
-use Rattle.std.specs.Prelude.{ℕ, ℤ, ◌-◌, ◌/◌, ◌+◌, ◌^◌, ◌==◌, ◌&&◌, ◌||◌, not, nat_lt, nat_le, int_lt, bit_and, Bool, true, false, if◌then◌else◌, List, [], ◌∷◌, ◌++◌, filter, find, map, count_by, Option, Some, None, is_some}
+use Rattle.std.specs.Prelude.{ℕ, ℤ, ◌-◌, ◌/◌, ◌+◌, ◌^◌, ◌==◌, ◌&&◌, ◌||◌, not, nat_lt, nat_le, int_lt, bit_and, Bool, true, false, if◌then◌else◌, List, [], ◌∷◌, ◌++◌, length, filter, find, map, count_by, Option, Some, None, is_some}
 use Rattle.std.specs.List.{list_all, list_any}
 use Rattle.std.specs.Ordering.{int_eq}
 use Rattle.p4_types.specs.declared.code.Cause.{Cause}
@@ -87,7 +87,7 @@ table_size table = if table.size == 0 then 1024 else table.size
 
 -- whether the entries of a table count their packets: it has a direct counter
 abbrev pub is_counted : Table → Bool
-is_counted table = is_some (find (λ id. true) table.direct_counters)
+is_counted table = not (length table.direct_counters == 0)
 
 -- how many slots of counters the switch has
 abbrev pub slot_limit : ℕ

@@ -1,5 +1,5 @@
 -- The rules of an update, each in its order (P4Runtime 1.3.0, "Write RPC", "Table entries", "Match Format", "Bytestrings"; order and some codes: this project's profile).
-use Rattle.std.specs.Prelude.{ℕ, ℤ, pos, negsuc, ◌-◌, ◌%◌, ◌^◌, ◌==◌, ◌&&◌, ◌||◌, not, nat_lt, nat_le, bit_and, Bool, true, false, if◌then◌else◌, List, [], ◌∷◌, map, find, Option, Some, None, option_map, is_some, unwrap_or, Result, Ok, Err}
+use Rattle.std.specs.Prelude.{ℕ, ℤ, pos, negsuc, ◌-◌, ◌%◌, ◌^◌, ◌==◌, ◌&&◌, ◌||◌, not, nat_lt, nat_le, bit_and, Bool, true, false, if◌then◌else◌, List, [], ◌∷◌, length, map, find, Option, Some, None, option_map, is_some, unwrap_or, Result, Ok, Err}
 use Rattle.std.specs.List.{list_all, list_any}
 use Rattle.std.specs.Int.{is_positive}
 use Rattle.p4_types.specs.declared.code.Cause.{Cause}
@@ -46,6 +46,10 @@ repeats (x ∷ xs) = list_any (λ y. y == x) xs || repeats xs
 -- the number of a byte string
 abbrev pub number : List ℕ → ℕ
 number bytes = num (bits bytes)
+
+-- the number of a byte string of at most so many bits; where it is wider, it is refused before it is asked for
+abbrev pub number_in : ℕ → List ℕ → ℕ
+number_in width bytes = if nat_lt (number bytes) (2 ^ width) then number bytes else 0
 
 -- INSERT, MODIFY or DELETE by its number in a message
 abbrev pub update_kind : ℤ → Option UpdateKind
@@ -116,8 +120,7 @@ is_optional match_kinds.Optional = true
 is_optional _ = false
 
 abbrev pub is_empty : List ℕ → Bool
-is_empty [] = true
-is_empty (b ∷ bytes) = false
+is_empty bytes = length bytes == 0
 
 abbrev pub all_zero : List ℕ → Bool
 all_zero bytes = list_all (λ b. b == 0) bytes
@@ -145,15 +148,22 @@ names_zero (Some (Some (actions.ActionProfileMemberId id))) = id == 0
 names_zero (Some (Some (actions.ActionProfileGroupId id))) = id == 0
 names_zero _ = false
 
--- U6: the match is not in the form of the table's key
-abbrev pub is_malformed : Table → TableEntry → Bool
-is_malformed table entry =
+abbrev pub has_match : TableEntry → Bool
+has_match entry = not (length entry.matches == 0)
+
+-- The match is not in the form of the table's key. With more fields than the key has, one is unknown or given twice.
+abbrev pub is_malformed_match : Table → TableEntry → Bool
+is_malformed_match table entry =
     let ids = map (λ asked. asked.field_id) entry.matches in
-    (entry.is_default_action && is_some (find (λ id. true) ids))
+    nat_lt (length table.match_fields) (length entry.matches)
+    || (entry.is_default_action && has_match entry)
     || not (list_all (λ asked. is_formed_in (matched table asked)) entry.matches)
     || repeats ids
     || (not entry.is_default_action && list_any (λ field. is_exact field.kind && not (list_any (λ id. id == field.id) ids)) table.match_fields)
-    || names_zero entry.action
+
+-- U6
+abbrev pub is_malformed : Table → TableEntry → Bool
+is_malformed table entry = is_malformed_match table entry || names_zero entry.action
 
 -- every byte string of the match is a number of at most so many bits
 abbrev pub fits : ℕ → FieldMatchKind → Bool
@@ -179,9 +189,9 @@ natural (negsuc n) = 0
 -- The match is the canonical one of what it asks: no value bits outside the mask or the prefix, a range that is one and not of all values.
 abbrev pub is_canonical : ℕ → FieldMatchKind → Bool
 is_canonical width (given.Exact value) = true
-is_canonical width (given.Ternary value mask) = bit_and (number value) (number mask) == number value
-is_canonical width (given.Lpm value length) = number value % 2 ^ (width - natural length) == 0
-is_canonical width (given.Range low high) = nat_le (number low) (number high) && not ((number low == 0) && (number high == 2 ^ width - 1))
+is_canonical width (given.Ternary value mask) = bit_and (number_in width value) (number_in width mask) == number_in width value
+is_canonical width (given.Lpm value length) = number_in width value % 2 ^ (width - natural length) == 0
+is_canonical width (given.Range low high) = nat_le (number_in width low) (number_in width high) && not ((number_in width low == 0) && (number_in width high == 2 ^ width - 1))
 is_canonical width (given.Optional value) = true
 
 abbrev pub is_canonical_in : Option (MatchField × FieldMatchKind) → Bool
@@ -196,9 +206,13 @@ has_priorities table = list_any (λ field. is_ternary field.kind || is_range fie
 abbrev pub has_right_priority : Table → TableEntry → Bool
 has_right_priority table entry = if has_priorities table && not entry.is_default_action then is_positive entry.priority else is_zero entry.priority
 
+-- the match is the canonical one of what it asks
+abbrev pub is_canonical_match : Table → TableEntry → Bool
+is_canonical_match table entry = list_all (λ asked. is_canonical_in (matched table asked)) entry.matches
+
 -- U8
 abbrev pub is_inconsistent : Table → TableEntry → Bool
-is_inconsistent table entry = not (list_all (λ asked. is_canonical_in (matched table asked)) entry.matches) || not (has_right_priority table entry)
+is_inconsistent table entry = not (is_canonical_match table entry) || not (has_right_priority table entry)
 
 -- whether an action with this scope may stand in an entry, or be the default
 abbrev pub is_allowed : Bool → Scope → Bool
@@ -213,7 +227,8 @@ has_action table default id = list_any (λ ref. (ref.id == id) && is_allowed def
 abbrev pub are_complete : List info_params.Param → List Param → Bool
 are_complete params arguments =
     let ids = map (λ argument. argument.param_id) arguments in
-    not (repeats ids)
+    nat_le (length arguments) (length params)
+    && not (repeats ids)
     && list_all (λ id. list_any (λ param. param.id == id) params) ids
     && list_all (λ param. list_any (λ id. id == param.id) ids) params
     && not (list_any (λ argument. is_empty argument.value) arguments)
@@ -264,11 +279,11 @@ entry_cause info scope kind entry table =
 -- the test of a field by what is asked of it, if it is asked anything
 abbrev pub test_by : ℕ → Option FieldMatchKind → FieldTest
 test_by width None = tests.Any
-test_by width (Some (given.Exact value)) = tests.Equal (number value)
-test_by width (Some (given.Ternary value mask)) = tests.Masked (number value) (number mask)
-test_by width (Some (given.Lpm value length)) = tests.Prefix (number value) (natural length) width
-test_by width (Some (given.Range low high)) = tests.Between (number low) (number high)
-test_by width (Some (given.Optional value)) = tests.Equal (number value)
+test_by width (Some (given.Exact value)) = tests.Equal (number_in width value)
+test_by width (Some (given.Ternary value mask)) = tests.Masked (number_in width value) (number_in width mask)
+test_by width (Some (given.Lpm value length)) = tests.Prefix (number_in width value) (natural length) width
+test_by width (Some (given.Range low high)) = tests.Between (number_in width low) (number_in width high)
+test_by width (Some (given.Optional value)) = tests.Equal (number_in width value)
 
 -- what is asked of a field
 abbrev pub asked_of : ℕ → List FieldMatch → Option FieldMatchKind
@@ -285,7 +300,7 @@ name_of table entry = record {
 -- an action with its arguments in the order of the parameters
 abbrev pub action_call : Option infos.Action → Action → ActionCall
 action_call None call = record { action = call.action_id; arguments = [] }
-action_call (Some action) call = record { action = call.action_id; arguments = map (λ param. number (argument_of call.params param.id)) action.params }
+action_call (Some action) call = record { action = call.action_id; arguments = map (λ param. number_in param.bitwidth (argument_of call.params param.id)) action.params }
 
 -- the plain action that is given, if one is
 abbrev pub given_call : Info → Option (Option TableAction) → Option ActionCall
