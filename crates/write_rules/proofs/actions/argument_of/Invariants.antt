@@ -1,0 +1,7 @@
+use Rattle.std.proofs.Common.{◌≡◌, ◌==◌, ◌&&◌, drop, map}
+use Rattle.std.specs.List.{list_any, list_all}
+use Rattle.switch_spec.specs.UpdateRules.{argument_of}
+use Rattle.write_rules.proofs.actions.argument_of.Given as goal
+
+abbrev pub invariant-loop-argument : goal.invariant-loop-argument
+invariant-loop-argument l = argument_of (drop l.argument-index l.arguments) l.id ≡ argument_of l.arguments l.id

@@ -1,0 +1,7 @@
+use Rattle.std.proofs.Common.{◌≡◌, ◌==◌, ◌&&◌, drop, map}
+use Rattle.std.specs.List.{list_any, list_all}
+use Rattle.switch_spec.specs.UpdateRules.{arguments_fit}
+use Rattle.write_rules.proofs.actions.arguments_fit.Given as goal
+
+abbrev pub invariant-loop-param : goal.invariant-loop-param
+invariant-loop-param l = arguments_fit (drop l.param-index l.params) l.arguments ≡ arguments_fit l.params l.arguments
