@@ -1,6 +1,7 @@
 //! The start of a switch, and the events that change it.
-use crate::bridge::BridgeInsert;
+use crate::list::List;
 use crate::messages::Uint128;
+use crate::table::Change;
 
 /// With what a switch starts.
 #[derive(Clone, Copy)]
@@ -14,17 +15,22 @@ pub struct Start {
     pub bridge: bool,
 }
 
-/// One event of the published list.
+/// The call that made an event, and the role and election id that it bore.
 #[derive(Clone, Copy)]
+pub struct Origin {
+    pub caller: u16,
+    pub call: u32,
+    pub role: u64,
+    pub election_id: Uint128,
+}
+
+/// One event of the published list.
+#[derive(Drop)]
 pub enum Event {
-    /// One update of the target plane. `caller` and `call` name the call that made it.
-    Change {
-        caller: u16,
-        call: u32,
-        role: u64,
-        election_id: Uint128,
-        insert: BridgeInsert,
-    },
+    /// One change of the target plane.
+    Change { by: Origin, change: Change },
+    /// Changes of the target plane that are one step.
+    Batch { by: Origin, changes: List<Change> },
     /// The end of the list. It is no step.
     Close,
 }

@@ -18,7 +18,7 @@ pub enum StepKind {
 #[derive(Clone, Copy)]
 pub struct Step {
     pub kind: StepKind,
-    pub changes: u32,
+    pub changes: u64,
 }
 
 /// A call of the journal: the `call`th of its controller's lane, from 1, with its steps and its reply.

@@ -1,7 +1,6 @@
 //! The plain data of the switch: what its calls, events, tapes and reports are made of.
 #![tactic(auto)]
 
-pub mod bridge;
 pub mod calls;
 pub mod code;
 pub mod events;

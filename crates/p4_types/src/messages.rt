@@ -329,6 +329,13 @@ pub struct CapabilitiesResponse {
     pub p4runtime_api_version: Text,
 }
 
-/// What a controller is told on its stream channel. No call that is served by now makes one.
+/// What a controller is told on its stream channel.
 #[derive(Drop)]
-pub enum StreamMessageResponse {}
+pub enum StreamMessageResponse {
+    Arbitration(MasterArbitrationUpdate),
+    Packet(PacketIn),
+    Digest(DigestList),
+    IdleTimeoutNotification(IdleTimeoutNotification),
+    Other(Any),
+    Error(StreamError),
+}

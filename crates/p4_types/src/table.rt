@@ -53,6 +53,13 @@ pub struct Entry {
     pub slot: Option<u32>,
 }
 
+/// The default action of a table.
+#[derive(Drop)]
+pub struct DefaultAction {
+    pub table: u32,
+    pub action: ActionCall,
+}
+
 /// What an INSERT or a MODIFY brings to a table.
 #[derive(Drop)]
 pub struct EntryChange {

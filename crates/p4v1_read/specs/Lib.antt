@@ -4,3 +4,4 @@ pub mod Entities
 pub mod Requests
 pub mod Stream
 pub mod Calls
+pub mod P4Infos

@@ -4,8 +4,11 @@
 mod calls;
 mod entities;
 pub mod laws;
+mod p4infos;
 mod reading;
 mod requests;
 mod stream;
 
 pub use calls::read_call;
+pub use p4infos::read_p4info;
+pub use requests::read_config;

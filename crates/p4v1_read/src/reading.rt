@@ -5,7 +5,7 @@ ghost use Rattle.p4v1_read.specs.MessageFields.{fields_of};
 ghost use Rattle.p4v1_read.specs.Nested.{read, one_at, all_at, inside_at, member_at, opaque_at};
 ghost use Rattle.wire_fields.specs.Fields.{WireField};
 ghost use Rattle.wire_messages.specs.Answers.{Reads, ReadsInMemory};
-ghost use Rattle.wire_messages.specs.Message.{each, bytes_at, text_at};
+ghost use Rattle.wire_messages.specs.Message.{each, bytes_at, text_at, texts_at, uint32s_at, message_at};
 
 use p4_types::list::{ByteList, List, Text};
 use std::alloc::Global;
@@ -125,4 +125,57 @@ pub(crate) fn text(alloc: Global, message: &Message<'_>, number: u32) -> Result<
     let mut text = String::new(alloc);
     text.push_str(message.text(number)?)?;
     Ok(Text::from_string(text))
+}
+
+fn text_from(alloc: Global, text: &str) -> Result<Text, ReadError>
+    ensures { ReadsInMemory (λ text. text) result (Some text.now) }
+{
+    let mut copy = String::new(alloc);
+    copy.push_str(text)?;
+    Ok(Text::from_string(copy))
+}
+
+fn texts_from(alloc: Global, texts: &[&str]) -> Result<List<Text>, ReadError>
+    ensures { ReadsInMemory (λ list. list) result (Some (map (λ x. x.now) texts.now)) }
+{
+    let mut list = List::new(alloc);
+    for text in texts {
+        list.push(text_from(alloc, text)?)?;
+    }
+    Ok(list)
+}
+
+pub(crate) fn texts(
+    alloc: Global,
+    message: &Message<'_>,
+    number: u32,
+) -> Result<List<Text>, ReadError>
+    ensures { ReadsInMemory (λ list. list) result (texts_at number message.now) }
+{
+    let texts = message.texts(alloc, number)?;
+    texts_from(alloc, texts.as_slice())
+}
+
+pub(crate) fn uint32s(
+    alloc: Global,
+    message: &Message<'_>,
+    number: u32,
+) -> Result<List<u32>, ReadError>
+    ensures { ReadsInMemory (λ list. list) result (uint32s_at number message.now) }
+{
+    Ok(List::from_vec(message.uint32s(alloc, number)?))
+}
+
+/// The bytes of a message that is carried unread.
+pub(crate) fn carried(
+    alloc: Global,
+    message: &Message<'_>,
+    number: u32,
+) -> Result<Option<ByteList>, ReadError>
+    ensures { ReadsInMemory (λ x. x) result (message_at number message.now) }
+{
+    match message.message(number)? {
+        Some(bytes) => Ok(Some(copied(alloc, bytes)?)),
+        None => Ok(None),
+    }
 }

@@ -1,11 +1,13 @@
 //! Requests, each read by the fields of its message.
-ghost use Rattle.std.specs.Prelude.{◌≡◌, [], ◌∷◌};
+ghost use Rattle.std.specs.Prelude.{◌≡◌, [], ◌∷◌, IfOk};
+ghost use Rattle.p4v1_read.specs.Nested.{read};
 ghost use Rattle.p4v1_read.specs.Requests.{uint128_of, election_id_at, update_of, write_request_of, read_request_of, cookie_of, config_of, set_request_of, get_request_of};
 ghost use Rattle.wire_messages.specs.Answers.{ReadsInMemory};
 ghost use Rattle.wire_messages.specs.Message.{message_at};
 
 use crate::reading;
 use crate::reading::Readable;
+use p4_types::code::NoMemory;
 use p4_types::list::ByteList;
 use p4_types::messages::{
     Cookie, Entity, ForwardingPipelineConfig, GetForwardingPipelineConfigRequest, ReadRequest,
@@ -169,5 +171,20 @@ impl Readable for GetForwardingPipelineConfigRequest {
             device_id,
             response_type,
         })
+    }
+}
+
+/// The configuration that the bytes are, or none where they are not read. It copies the bytes that it
+/// keeps.
+pub fn read_config(
+    alloc: Global,
+    bytes: &[u8],
+) -> Result<Option<ForwardingPipelineConfig>, NoMemory>
+    ensures { IfOk result (λ config. config ≡ read config_of bytes.now) }
+{
+    match reading::from_bytes(alloc, bytes) {
+        Ok(config) => Ok(Some(config)),
+        Err(ReadError::Unreadable) => Ok(None),
+        Err(ReadError::NoMemory) => Err(NoMemory),
     }
 }

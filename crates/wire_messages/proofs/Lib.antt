@@ -1,3 +1,6 @@
 pub mod Scanning
 pub mod Reading
 pub mod Packed
+pub mod WrittenBytes
+pub mod ReadBack
+pub mod CanWrite

@@ -2,9 +2,11 @@
 #![tactic(auto)]
 
 mod errors;
+pub mod laws;
 mod message;
 mod steps;
 mod values;
+pub mod write;
 
 pub use errors::{ReadError, Unreadable};
 pub use message::Message;

@@ -1,0 +1,5 @@
+use Rattle.p4v1_wire.proofs.StreamBack.{digest_list_back}
+use Rattle.p4v1_wire.proofs.laws.digest_list_is_read_back.Goals as goal
+
+pub returns : goal.returns
+returns c = digest_list_back

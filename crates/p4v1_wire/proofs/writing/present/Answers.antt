@@ -1,0 +1,8 @@
+use Rattle.std.proofs.Common.{None, refl, sym}
+use Rattle.std.proofs.lemmas.List.{append-nil}
+use Rattle.wire_messages.specs.Written.{Present}
+use Rattle.wire_messages.proofs.WrittenBytes.{left_out}
+use Rattle.p4v1_wire.proofs.writing.present.Goals as goal
+
+pub returns-in-None-clause-ok : goal.returns-in-None-clause-ok
+returns-in-None-clause-ok g c = rw (c.in-None.is, left_out c.args.number (Present None) refl) (sym (append-nil _))

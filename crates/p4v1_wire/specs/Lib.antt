@@ -1,0 +1,12 @@
+pub mod Rows
+pub mod StatusRows
+pub mod EntityRows
+pub mod StreamRows
+pub mod ResponseRows
+pub mod InfoRows
+pub mod ServerMessages
+pub mod ReadBack
+pub mod Counted
+pub mod InfoMessages
+pub mod Laws
+pub mod Worked
