@@ -1,0 +1,4 @@
+pub mod Sameness
+pub mod Positions
+pub mod Kept
+pub mod Validity

@@ -1,0 +1,12 @@
+use Rattle.std.proofs.Common.{rules}
+use Rattle.p4info_model.proofs.index.Index.of.Goals as goal
+
+pub returns : goal.returns
+returns c = record {
+  tables = search rules;
+  actions = search rules;
+  action_profiles = search rules;
+  counters = search rules;
+  direct_counters = search rules;
+  digests = search rules;
+}

@@ -1,0 +1,19 @@
+//! A valid P4Info: the objects of a program, looked up by their ids.
+#![tactic(auto)]
+
+mod flaw;
+mod index;
+mod numbers;
+mod objects;
+mod parts;
+mod places;
+mod read;
+mod references;
+mod repeats;
+mod resolve;
+mod rules;
+mod valid;
+
+pub use flaw::InfoFault;
+pub use read::read_info;
+pub use valid::{InfoError, P4Info};

@@ -1,0 +1,64 @@
+//! What the numbers of a P4Info stand for.
+ghost use Rattle.std.specs.Prelude.{◌≡◌};
+ghost use Rattle.p4info_model.specs.Numbers.{width_of, size_of, kind_of, scope_of, named};
+
+use p4_types::info::{MatchKind, Scope};
+
+/// A width in bits, 1 to 128.
+pub(crate) fn width_of(bits: i32) -> Option<u32>
+    ensures { result ≡ width_of bits }
+{
+    if bits < 1 || bits > 128 {
+        return None;
+    }
+    Some(bits as u32)
+}
+
+pub(crate) fn size_of(number: i64) -> Option<u64>
+    ensures { result ≡ size_of number }
+{
+    if number < 0 {
+        return None;
+    }
+    Some(number as u64)
+}
+
+pub(crate) fn small_size_of(number: i32) -> Option<u32>
+    ensures { result ≡ size_of number }
+{
+    if number < 0 {
+        return None;
+    }
+    Some(number as u32)
+}
+
+pub(crate) fn kind_of(number: i32) -> Option<MatchKind>
+    ensures { result ≡ kind_of number }
+{
+    match number {
+        2 => Some(MatchKind::Exact),
+        3 => Some(MatchKind::Lpm),
+        4 => Some(MatchKind::Ternary),
+        5 => Some(MatchKind::Range),
+        6 => Some(MatchKind::Optional),
+        _ => None,
+    }
+}
+
+pub(crate) fn scope_of(number: i32) -> Option<Scope>
+    ensures { result ≡ scope_of number }
+{
+    match number {
+        0 => Some(Scope::TableAndDefault),
+        1 => Some(Scope::TableOnly),
+        2 => Some(Scope::DefaultOnly),
+        _ => None,
+    }
+}
+
+/// An id, where 0 names nothing.
+pub(crate) fn named(id: u32) -> Option<u32>
+    ensures { result ≡ named id }
+{
+    if id == 0 { None } else { Some(id) }
+}
