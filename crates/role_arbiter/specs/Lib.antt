@@ -1,0 +1,6 @@
+pub mod Election
+pub mod State
+pub mod Configuration
+pub mod Arbitration
+pub mod Telling
+pub mod Laws

@@ -1,0 +1,215 @@
+//! The roles of a device and their sessions.
+ghost use Rattle.std.specs.Prelude.{◌≡◌, false, None, Some, IfOk, IfErr, OnOk, OnErr, is_some};
+ghost use Rattle.std.specs.Option.{option_map, option_copied};
+ghost use Rattle.role_arbiter.specs.State.{RolesState, no_roles, session_in, greatest_in, primary_of, status_of};
+ghost use Rattle.role_arbiter.specs.Arbitration.{cause, asked, arbitrated, left, lacks_session, lacks_role};
+ghost use Rattle.role_arbiter.specs.Telling.{told_at_arbitration, told_at_leave};
+
+use crate::changes::{self, ROLE_LIMIT};
+use crate::configuration::{config_of, role_of};
+use crate::numbers::{Lanes, SESSION_LIMIT};
+use crate::sessions::{self, NamedRole, Session};
+use p4_types::code::{Cause, Code, NoMemory};
+use p4_types::messages::{MasterArbitrationUpdate, Uint128};
+use std::alloc::Global;
+use std::marker::Model;
+
+/// The live sessions of a device, and the roles that were ever named. A contract sees both lists.
+/// Its calls but `open` take no memory.
+#[derive(Drop)]
+pub struct Roles {
+    sessions: Vec<Session>,
+    named: Vec<NamedRole>,
+}
+
+impl Model for Roles {
+    ghost use Rattle.std.specs.Prelude.{vec_len, vec_capacity, ◌≤◌};
+    ghost use Rattle.role_arbiter.specs.State.{RolesState};
+
+    ghost Value = { RolesState };
+
+    ghost view = { λ roles. record { sessions = roles.sessions.items; named = roles.named.items } };
+
+    ghost invariant = { λ roles. (vec_len roles.sessions ≤ 32) × (32 ≤ vec_capacity roles.sessions) × (64 ≤ vec_capacity roles.named) };
+}
+
+impl Roles {
+    /// No session and no role, with room for 32 live sessions and for 64 roles.
+    pub fn open(alloc: Global) -> Result<Roles, NoMemory>
+        ensures { IfOk result (λ roles. roles ≡ no_roles) }
+    {
+        let sessions = Vec::with_capacity(alloc, SESSION_LIMIT)?;
+        let named = Vec::with_capacity(alloc, ROLE_LIMIT)?;
+        Ok(Roles { sessions, named })
+    }
+
+    /// The live sessions, by rising caller.
+    pub fn sessions(&self) -> &[Session]
+        ensures { result.now ≡ self.now.sessions }
+    {
+        self.sessions.as_slice()
+    }
+
+    /// The session of a caller, if it has one.
+    pub fn session(&self, caller: u16) -> Option<&Session>
+        ensures { option_copied result ≡ session_in self.now.sessions caller }
+    {
+        sessions::session_in(&self.sessions, caller)
+    }
+
+    /// The roles that were ever named, each with the greatest election id that it ever received.
+    pub fn named(&self) -> &[NamedRole]
+        ensures { result.now ≡ self.now.named }
+    {
+        self.named.as_slice()
+    }
+
+    /// The greatest election id that a role ever received, or 0.
+    pub fn greatest(&self, role: u64) -> Uint128
+        ensures { result ≡ greatest_in self.now.named role }
+    {
+        sessions::greatest_in(&self.named, role)
+    }
+
+    /// The session of a role's primary, if it has one.
+    pub fn primary_session(&self, role: u64) -> Option<&Session>
+        ensures { option_copied result ≡ primary_of self.now role }
+    {
+        sessions::primary_in(&self.sessions, &self.named, role)
+    }
+
+    /// The caller of a role's primary, if it has one.
+    pub fn primary(&self, role: u64) -> Option<u16>
+        ensures { result ≡ option_map (λ session. session.caller) (primary_of self.now role) }
+    {
+        match self.primary_session(role) {
+            None => None,
+            Some(primary) => Some(primary.caller),
+        }
+    }
+
+    /// What a caller's session is told, if it has one: `Ok` for the primary of its role,
+    /// `AlreadyExists` for another session while there is a primary, `NotFound` while there is none.
+    pub fn status(&self, caller: u16) -> Option<Code>
+        ensures { result ≡ status_of self.now caller }
+    {
+        match self.session(caller) {
+            None => None,
+            Some(session) => {
+                let primary = self.primary_session(session.role);
+                Some(sessions::status_by(primary, session.caller))
+            }
+        }
+    }
+
+    /// The session that an update would give its caller, or the first rule of A2 to A5 that it
+    /// breaks. The device (A1) is the caller's to look at. Nothing changes.
+    pub fn check(&self, caller: u16, update: &MasterArbitrationUpdate) -> Result<Session, Cause>
+        ensures accepted { OnOk result (cause self.now caller update.now ≡ None) }
+        ensures session { IfOk result (λ session. session ≡ asked caller update.now) }
+        ensures refused { IfErr result (λ refused. cause self.now caller update.now ≡ Some refused) }
+    {
+        let role = role_of(&update.role);
+        if changes::has_other_role(&self.sessions, caller, role) {
+            return Err(Cause {
+                rule: 2,
+                code: Code::FailedPrecondition,
+            });
+        }
+        let Ok(config) = config_of(&update.role) else {
+            return Err(Cause {
+                rule: 3,
+                code: Code::InvalidArgument,
+            });
+        };
+        if changes::id_is_taken(&self.sessions, caller, role, update.election_id) {
+            return Err(Cause {
+                rule: 4,
+                code: Code::InvalidArgument,
+            });
+        }
+        if changes::lacks_session(&self.sessions, caller)
+            || changes::lacks_role(&self.named, role)
+        {
+            return Err(Cause {
+                rule: 5,
+                code: Code::ResourceExhausted,
+            });
+        }
+        Ok(Session {
+            caller,
+            role,
+            election_id: update.election_id,
+            config,
+        })
+    }
+
+    /// Arbitration by the rules A2 to A5. A refusal changes nothing.
+    pub fn arbitrate(&mut self, caller: u16, update: &MasterArbitrationUpdate) -> Result<(), Cause>
+        ensures accepted { OnOk result (cause self.old caller update.now ≡ None) }
+        ensures step { OnOk result (self.new ≡ arbitrated self.old (asked caller update.now)) }
+        ensures refused { IfErr result (λ refused. cause self.old caller update.now ≡ Some refused) }
+        ensures kept { OnErr result (self.new ≡ self.old) }
+    {
+        self.arbitrate_and_tell(caller, update)?;
+        Ok(())
+    }
+
+    /// The same as `arbitrate`, with the lanes that are to be told of it.
+    pub fn arbitrate_and_tell(
+        &mut self,
+        caller: u16,
+        update: &MasterArbitrationUpdate,
+    ) -> Result<Lanes, Cause>
+        ensures accepted { OnOk result (cause self.old caller update.now ≡ None) }
+        ensures step { OnOk result (self.new ≡ arbitrated self.old (asked caller update.now)) }
+        ensures told { IfOk result (λ lanes. lanes ≡ told_at_arbitration self.old (asked caller update.now)) }
+        ensures refused { IfErr result (λ refused. cause self.old caller update.now ≡ Some refused) }
+        ensures kept { OnErr result (self.new ≡ self.old) }
+    {
+        let session = self.check(caller, update)?;
+        Ok(self.enter(session))
+    }
+
+    /// The step alone, for a session that `check` gave, with the lanes that are to be told of it.
+    pub fn enter(&mut self, session: Session) -> Lanes
+        requires session { lacks_session self.old.sessions session.caller ≡ false }
+        requires role { lacks_role self.old.named session.role ≡ false }
+        ensures step { self.new ≡ arbitrated self.old session }
+        ensures told { result ≡ told_at_arbitration self.old session }
+    {
+        let before = sessions::primary_in(&self.sessions, &self.named, session.role);
+        let before = sessions::copied_of(before);
+        let new = sessions::copied(&session);
+        changes::receive(&mut self.named, session.role, session.election_id);
+        changes::put(&mut self.sessions, session);
+        let after = sessions::primary_in(&self.sessions, &self.named, new.role);
+        let others = sessions::differs(before.as_ref(), after);
+        changes::with_others(others, &new, &self.sessions)
+    }
+
+    /// Ends a caller's session; false where it has none. What its role received stays.
+    pub fn leave(&mut self, caller: u16) -> bool
+        ensures step { self.new ≡ left self.old caller }
+        ensures had { result ≡ is_some (session_in self.old.sessions caller) }
+    {
+        let had = self.session(caller).is_some();
+        changes::remove(&mut self.sessions, caller);
+        had
+    }
+
+    /// The lanes that are to be told where a caller's session ends: all others of its role if it is
+    /// the primary, else none.
+    pub fn told_at_leave(&self, caller: u16) -> Lanes
+        ensures { result ≡ told_at_leave self.now caller }
+    {
+        let Some(session) = self.session(caller) else {
+            return Lanes::new();
+        };
+        if self.primary(session.role) == Some(session.caller) {
+            changes::others_of(session.caller, session.role, &self.sessions)
+        } else {
+            Lanes::new()
+        }
+    }
+}

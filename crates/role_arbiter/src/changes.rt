@@ -1,0 +1,169 @@
+//! Changes of the sessions and of the roles, and who is told of them.
+ghost use Rattle.std.specs.Prelude.{◌≡◌, ◌==◌, ◌<◌, ◌≤◌, nat_lt, false, filter, length, not, vec_len, vec_capacity, position};
+ghost use Rattle.std.specs.List.{position_or_len, list_any};
+ghost use Rattle.role_arbiter.specs.Arbitration.{has_other_role, id_is_taken, has_session, is_named, lacks_session, lacks_role, inserted, with_session, greater, received};
+ghost use Rattle.role_arbiter.specs.Telling.{with_others, others_of};
+
+use crate::numbers::{Lanes, SESSION_LIMIT};
+use crate::sessions::{NamedRole, Session, number};
+use p4_types::messages::Uint128;
+
+/// The most roles that are ever named.
+pub const ROLE_LIMIT: usize = 64;
+
+pub(crate) fn has_other_role(sessions: &[Session], caller: u16, role: u64) -> bool
+    ensures { result ≡ has_other_role sessions.now caller role }
+{
+    sessions
+        .iter()
+        .any(|session| session.caller == caller && session.role != role)
+}
+
+pub(crate) fn id_is_taken(sessions: &[Session], caller: u16, role: u64, id: Uint128) -> bool
+    ensures { result ≡ id_is_taken sessions.now caller role id }
+{
+    let id = number(id);
+    sessions.iter().any(|session| {
+        session.caller != caller
+            && session.role == role
+            && number(session.election_id) != 0
+            && number(session.election_id) == id
+    })
+}
+
+fn has_session(sessions: &[Session], caller: u16) -> bool
+    ensures { result ≡ has_session sessions.now caller }
+{
+    sessions.iter().any(|session| session.caller == caller)
+}
+
+fn is_named(named: &[NamedRole], role: u64) -> bool
+    ensures { result ≡ is_named named.now role }
+{
+    named.iter().any(|known| known.role == role)
+}
+
+pub(crate) fn lacks_session(sessions: &[Session], caller: u16) -> bool
+    ensures { result ≡ lacks_session sessions.now caller }
+{
+    !has_session(sessions, caller) && sessions.len() >= SESSION_LIMIT
+}
+
+pub(crate) fn lacks_role(named: &[NamedRole], role: u64) -> bool
+    ensures { result ≡ lacks_role named.now role }
+{
+    !is_named(named, role) && named.len() >= ROLE_LIMIT
+}
+
+fn place_of(sessions: &[Session], caller: u16) -> Option<usize>
+    ensures { result ≡ position (λ session. session.caller == caller) sessions.now }
+{
+    sessions.iter().position(|session| session.caller == caller)
+}
+
+fn first_greater(sessions: &[Session], caller: u16) -> Option<usize>
+    ensures { result ≡ position (λ session. nat_lt caller session.caller) sessions.now }
+{
+    sessions.iter().position(|session| caller < session.caller)
+}
+
+#[tactic(auto, using(crate::proofs::Places::first_greater_some))]
+fn place_before_greater(sessions: &[Session], caller: u16) -> usize
+    ensures { result ≡ position_or_len (λ session. nat_lt caller session.caller) sessions.now }
+{
+    match first_greater(sessions, caller) {
+        Some(place) => place,
+        None => sessions.len(),
+    }
+}
+
+fn place_of_role(named: &[NamedRole], role: u64) -> Option<usize>
+    ensures { result ≡ position (λ known. known.role == role) named.now }
+{
+    named.iter().position(|known| known.role == role)
+}
+
+fn insert(sessions: &mut Vec<Session>, session: Session)
+    requires few { vec_len sessions.old < 32 }
+    requires room { 32 ≤ vec_capacity sessions.old }
+    ensures items { sessions.new.items ≡ inserted sessions.old.items session }
+    ensures few { vec_len sessions.new ≤ 32 }
+    ensures room { 32 ≤ vec_capacity sessions.new }
+{
+    let place = place_before_greater(sessions, session.caller);
+    sessions.insert(place, session).unwrap();
+}
+
+#[tactic(auto, using(crate::proofs::Places::put_at))]
+pub(crate) fn put(sessions: &mut Vec<Session>, session: Session)
+    requires few { vec_len sessions.old ≤ 32 }
+    requires room { 32 ≤ vec_capacity sessions.old }
+    requires served { lacks_session sessions.old.items session.caller ≡ false }
+    ensures items { sessions.new.items ≡ with_session sessions.old.items session }
+    ensures few { vec_len sessions.new ≤ 32 }
+    ensures room { 32 ≤ vec_capacity sessions.new }
+{
+    match place_of(sessions, session.caller) {
+        Some(place) => sessions[place] = session,
+        None => insert(sessions, session),
+    }
+}
+
+fn greater(a: Uint128, b: Uint128) -> Uint128
+    ensures { result ≡ greater a b }
+{
+    if number(a) < number(b) { b } else { a }
+}
+
+#[tactic(auto, using(crate::proofs::Places::receive_at))]
+pub(crate) fn receive(named: &mut Vec<NamedRole>, role: u64, id: Uint128)
+    requires room { 64 ≤ vec_capacity named.old }
+    requires served { lacks_role named.old.items role ≡ false }
+    ensures items { named.new.items ≡ received named.old.items role id }
+    ensures room { 64 ≤ vec_capacity named.new }
+{
+    match place_of_role(named, role) {
+        Some(place) => {
+            let known = named[place];
+            named[place] = NamedRole {
+                role: known.role,
+                greatest: greater(known.greatest, id),
+            };
+        }
+        None => named.push_reserved(NamedRole { role, greatest: id }),
+    }
+}
+
+pub(crate) fn remove(sessions: &mut Vec<Session>, caller: u16)
+    ensures items { sessions.new.items ≡ filter (λ session. not (session.caller == caller)) sessions.old.items }
+    ensures few { vec_len sessions.new ≤ vec_len sessions.old }
+    ensures room { vec_capacity sessions.new ≡ vec_capacity sessions.old }
+{
+    sessions.retain(|session| session.caller != caller);
+}
+
+pub(crate) fn with_others(others: bool, new: &Session, sessions: &[Session]) -> Lanes
+    requires { length sessions.now ≤ 32 }
+    ensures { result ≡ with_others others new.now sessions.now }
+{
+    let mut told = Lanes::new();
+    for session in sessions {
+        if session.caller == new.caller || others && session.role == new.role {
+            told.push(session.caller);
+        }
+    }
+    told
+}
+
+pub(crate) fn others_of(caller: u16, role: u64, sessions: &[Session]) -> Lanes
+    requires { length sessions.now ≤ 32 }
+    ensures { result ≡ others_of caller role sessions.now }
+{
+    let mut told = Lanes::new();
+    for session in sessions {
+        if session.caller != caller && session.role == role {
+            told.push(session.caller);
+        }
+    }
+    told
+}

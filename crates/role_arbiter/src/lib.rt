@@ -1,0 +1,13 @@
+//! Which controller of a role is its primary (P4Runtime 1.3.0, "Mastership Arbitration").
+#![tactic(auto)]
+
+mod arbiter;
+mod changes;
+mod configuration;
+pub mod laws;
+mod numbers;
+mod sessions;
+
+pub use arbiter::Roles;
+pub use numbers::{Ids, Lanes};
+pub use sessions::{NamedRole, Session};
