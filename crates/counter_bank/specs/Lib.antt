@@ -1,0 +1,4 @@
+pub mod Figures
+pub mod Account
+pub mod Counting
+pub mod Laws

@@ -1,0 +1,108 @@
+//! The bank: its words, and the steps on them.
+ghost use Rattle.std.specs.Prelude.{◌≡◌, ◌*◌, ◌<◌, ◌≤◌, length, IfOk};
+ghost use Rattle.counter_bank.specs.Figures.{figures_of, AtMost};
+ghost use Rattle.counter_bank.specs.Account.{first_seat, all_parts, most_slots, after_hit, less_a_part, with_a_part, joined, NotesAt, AreTotals, NoneAbove};
+
+use crate::seat::Seat;
+use crate::tally::{Adds, Counting, Notes, Parts, Tally};
+use crate::totals::Totals;
+use atomic_table::Table;
+use p4_types::code::NoMemory;
+use std::alloc::Global;
+use std::marker::Model;
+
+/// Counters that threads share by reference: 16 bytes for each slot.
+#[derive(Drop)]
+pub struct Bank {
+    table: Table<(), Tally, u64, Counting, Global>,
+    slots: u32,
+}
+
+impl Model for Bank {
+    ghost use Rattle.std.specs.Prelude.{◌≡◌, ◌*◌, ◌<◌};
+    ghost use Rattle.counter_bank.specs.Account.{Opened};
+
+    ghost Value = { Opened };
+
+    ghost view = { λ b. record { id = b.table.shared.table_id; slots = b.slots } };
+
+    ghost invariant = { λ b. (b.table.shared.key ≡ 2 * b.slots) × (b.table.shared.table_id.words ≡ 2 * b.slots) × (b.table.shared.table_id.slots ≡ 0) × (0 < b.slots) };
+}
+
+/// Opens a bank of so many slots, 1 to 1,048,576, all at 0, with its first seat, which has all 2^32 parts.
+/// No other call takes memory, and none waits. While a bank is opened, it takes twice its memory.
+pub fn open(alloc: Global, slots: u32) -> Result<(Bank, Seat), NoMemory>
+    requires slots { (0 < slots) × (slots ≤ most_slots) }
+    ensures { IfOk result (λ r. (r.0.slots ≡ slots) × (r.1 ≡ first_seat r.0.id)) }
+{
+    let words = 2 * u64::from(slots);
+    let zeros = vec![in alloc; 0u64; words as usize]?;
+    let (table, inner) = Table::of_words(alloc, zeros.as_slice(), &words)?;
+    Ok((Bank { table, slots }, Seat { inner }))
+}
+
+impl Bank {
+    /// Makes a new seat of one of the seat's parts. It has counted nothing, and knows what the other has noted.
+    pub fn split(&self, seat: &mut Seat) -> Seat
+        requires bank { seat.old.bank ≡ self.now.id }
+        requires parts { 1 < seat.old.parts }
+        ensures kept { seat.new ≡ less_a_part seat.old }
+        ensures given { result ≡ with_a_part seat.old }
+    {
+        let given = self.table.shared.split_seat::<Parts>(&mut seat.inner);
+        Seat { inner: given }
+    }
+
+    /// Takes in another seat of the bank, with its parts and all that it counted and noted.
+    pub fn join(&self, seat: &mut Seat, other: Seat)
+        requires bank { seat.old.bank ≡ self.now.id }
+        requires other { other.bank ≡ self.now.id }
+        ensures { seat.new ≡ joined seat.old other }
+    {
+        let Seat { inner } = other;
+        self.table.shared.join_seat::<Parts>(&mut seat.inner, inner);
+    }
+
+    /// Counts a packet of so many bytes at a slot.
+    pub fn hit(&self, seat: &mut Seat, slot: u32, bytes: u32)
+        requires bank { seat.old.bank ≡ self.now.id }
+        requires slot { slot < self.now.slots }
+        ensures { seat.new ≡ after_hit seat.old slot bytes }
+    {
+        let shared = &self.table.shared;
+        let at = 2 * slot as usize;
+        shared.fetch_add::<Adds>(&mut seat.inner, at, 1);
+        shared.fetch_add::<Adds>(&mut seat.inner, at + 1, u64::from(bytes));
+    }
+
+    /// The packets and the bytes of a slot, each modulo 2^64 and as it is when it is read: first the packets, then the bytes.
+    pub fn load(&self, seat: &mut Seat, slot: u32) -> (u64, u64)
+        requires bank { seat.old.bank ≡ self.now.id }
+        requires slot { slot < self.now.slots }
+        ensures figures { result ≡ figures_of seat.new.noted slot }
+        ensures since { AtMost seat.old.noted seat.new.noted slot }
+        ensures own { AtMost seat.old.added seat.new.noted slot }
+        ensures same { NotesAt seat.old seat.new slot }
+    {
+        let shared = &self.table.shared;
+        let at = 2 * slot as usize;
+        let packets = shared.load::<Notes>(&mut seat.inner, at);
+        let bytes = shared.load::<Notes>(&mut seat.inner, at + 1);
+        (packets, bytes)
+    }
+}
+
+/// Closes a bank with the seat that all others were joined to, which then has all parts.
+pub fn close_with(bank: Bank, seat: Seat) -> Totals
+    requires bank { seat.bank ≡ bank.id }
+    requires parts { seat.parts ≡ all_parts }
+    ensures slots { length result ≡ 2 * bank.slots }
+    ensures totals { AreTotals result bank.slots seat.added }
+    ensures noted { NoneAbove seat.noted seat.added }
+{
+    let Bank { table, slots: _ } = bank;
+    let Seat { inner } = seat;
+    Totals {
+        closed: table.close_with(inner),
+    }
+}
