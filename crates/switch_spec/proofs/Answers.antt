@@ -1,83 +1,321 @@
 -- What holds of each answer.
-use Rattle.std.proofs.Common.{arith, ◌+◌, ◌≤◌, ◌≡◌, ℕ, false, List, ◌++◌, length, Option, Some, None, refl, ap, ◌∙◌}
-use Rattle.p4_types.specs.declared.bridge.BridgeInsert.{BridgeInsert}
+use Rattle.std.proofs.Common.{arith, suc, ◌+◌, ◌≤◌, ◌<◌, ◌≡◌, ℕ, Bool, true, false, not, List, [], ◌∷◌, ◌++◌, length, map, fold, Option, Some, None, Result, Ok, Err, is_some, ◌==◌, nat_lt, IfErr, refl, ap, ◌∙◌, sym, subst, cond, if◌then◌else◌}
+use Rattle.std.proofs.lemmas.List.{append-nil}
+use Rattle.std.specs.List.{filter_map}
+use Rattle.std.specs.Result.{result_ok}
+use Rattle.p4_types.specs.declared.calls.Call.{Call}
+use Rattle.p4_types.specs.declared.calls.Call.TheVariants as calls
 use Rattle.p4_types.specs.declared.code.Cause.{Cause}
+use Rattle.p4_types.specs.declared.code.Code.{Code}
+use Rattle.p4_types.specs.declared.code.Code.TheVariants as codes
+use Rattle.p4_types.specs.declared.info.Info.{Info}
+use Rattle.p4_types.specs.declared.messages.Entity.{Entity}
+use Rattle.p4_types.specs.declared.messages.Entity.TheVariants as entities
+use Rattle.p4_types.specs.declared.messages.ReadRequest.{ReadRequest}
+use Rattle.p4_types.specs.declared.messages.TableEntry.{TableEntry}
 use Rattle.p4_types.specs.declared.events.Event.{Event}
-use Rattle.switch_spec.specs.Answer.{Answer, LaneCall, written, insert_answer, answer_by, answer}
-use Rattle.switch_spec.specs.Control.{Control, Plane, cause, insert_unless, insert_into, applied, Legal, bridge_primary_id}
+use Rattle.p4_types.specs.declared.events.Event.TheVariants as events
+use Rattle.p4_types.specs.declared.events.Origin.{Origin}
+use Rattle.p4_types.specs.declared.info.Table.{Table}
+use Rattle.p4_types.specs.declared.messages.Uint128.{Uint128}
+use Rattle.p4_types.specs.declared.messages.Update.{Update}
+use Rattle.p4_types.specs.declared.messages.WriteRequest.{WriteRequest}
+use Rattle.p4_types.specs.declared.table.Change.{Change}
+use Rattle.p4_types.specs.declared.table.Change.TheVariants as changes
+use Rattle.p4_types.specs.declared.table.EntryChange.{EntryChange}
+use Rattle.switch_spec.specs.Answer.{Answer, LaneCall, plain, failed, write_reply, write_refusal, write_unless, written, continued, all_or_nothing, batch, origin, has_failed, outcomes, state_after, own_error, batch_errors, is_atomicity, is_atomic, read_reply, unreadable, answer_to, answer}
+use Rattle.switch_spec.specs.Control.{Control, Plane, primary, bridge_primary, bears, inserted_in, changed, changed_unless, changed_in, change_applied, change_cause, outcome, apply, applied, May, MayChange, MayChanges, Legal}
+use Rattle.switch_spec.specs.Objects.{table_of}
+use Rattle.p4v1_read.specs.Calls.{call_of}
+use Rattle.switch_spec.specs.Reading.{match_refusal, entry_refusal_in, entity_refusal, first_of, read_unless, read_in, read_result}
 use Rattle.switch_spec.specs.History.{is_unavailable, steps_of}
 
--- It is no refusal for memory, makes no packet, and its events are at most one step that may follow.
+-- It is no refusal for memory, makes no packet, and its events are steps that may follow, no more than a list of updates has.
 pub record IsSound (c : Control) (a : Answer) : Type 0 where
   pub available : is_unavailable a.code ≡ false
   pub no_packet : a.packet ≡ None
   pub all_steps : length (steps_of a.events) ≡ length a.events
   pub legal : c.closed ≡ false → (rest : List Event) → Legal (applied c a.events) rest → Legal c (a.events ++ rest)
   pub still_open : c.closed ≡ false → (applied c a.events).closed ≡ false
-  pub one_step : length (steps_of a.events) ≤ 1
-  pub one_number : (applied c a.events).next ≤ c.next + 1
+  pub few_steps : length (steps_of a.events) ≤ 4096
+  pub few_numbers : (applied c a.events).next ≤ c.next + 4096
 
-insert_unless-closed : (o : Option Cause) (c : Control) (plane : Plane) (insert : BridgeInsert) → (insert_unless o c plane insert).closed ≡ c.closed
-insert_unless-closed None c plane insert = refl
-insert_unless-closed (Some refused) c plane insert = refl
+-- A change leaves open what is open and each role its primary, and draws one number at most.
+record IsSteady (c d : Control) : Type 0 where
+  closed : d.closed ≡ c.closed
+  primaries : (role : ℕ) (id : Uint128) → bears (primary d role) id ≡ bears (primary c role) id
+  next : d.next ≤ c.next + 1
 
-insert_into-closed : (o : Option Plane) (c : Control) (insert : BridgeInsert) → (insert_into o c insert).closed ≡ c.closed
-insert_into-closed None c insert = refl
-insert_into-closed (Some plane) c insert = insert_unless-closed (cause plane insert) c plane insert
+steady_refl : (c : Control) → IsSteady c c
+steady_refl c = record { closed = refl; primaries = λ role id. refl; next = omega arith }
 
-insert_unless-next : (o : Option Cause) (c : Control) (plane : Plane) (insert : BridgeInsert) → (insert_unless o c plane insert).next ≤ c.next + 1
-insert_unless-next None c plane insert = omega arith
-insert_unless-next (Some refused) c plane insert = omega arith
+inserted_steady : (o : Option Table) (c : Control) (plane : Plane) (change : EntryChange) → c.plane ≡ Some plane → IsSteady c (inserted_in o c plane change)
+inserted_steady None c plane change is = steady_refl c
+inserted_steady (Some table) c plane change is = record { closed = refl; primaries = λ role id. ap (λ p. bears (bridge_primary p role) id) (sym is); next = omega arith }
 
-insert_into-next : (o : Option Plane) (c : Control) (insert : BridgeInsert) → (insert_into o c insert).next ≤ c.next + 1
-insert_into-next None c insert = omega arith
-insert_into-next (Some plane) c insert = insert_unless-next (cause plane insert) c plane insert
+changed_steady : (change : Change) (c : Control) (plane : Plane) → c.plane ≡ Some plane → IsSteady c (changed c plane change)
+changed_steady (changes.InsertEntry change) c plane is = inserted_steady _ c plane change is
+changed_steady (changes.ModifyEntry change) c plane is = record { closed = refl; primaries = λ role id. ap (λ p. bears (bridge_primary p role) id) (sym is); next = omega arith }
+changed_steady (changes.DeleteEntry name) c plane is = record { closed = refl; primaries = λ role id. ap (λ p. bears (bridge_primary p role) id) (sym is); next = omega arith }
+changed_steady (changes.ModifyDefault table action) c plane is = record { closed = refl; primaries = λ role id. ap (λ p. bears (bridge_primary p role) id) (sym is); next = omega arith }
 
-written_sound : (c : Control) (lane k : ℕ) (insert : BridgeInsert) (plane : Plane) → c.plane ≡ Some plane → (o : Option Cause) → cause plane insert ≡ o
-    → IsSound c (written lane k insert o)
-written_sound c lane k insert plane is None none = record {
-  available = refl;
+unless_steady : (o : Option Cause) (change : Change) (c : Control) (plane : Plane) → c.plane ≡ Some plane → IsSteady c (changed_unless o c plane change)
+unless_steady None change c plane is = changed_steady change c plane is
+unless_steady (Some cause) change c plane is = steady_refl c
+
+in_steady : (o : Option Plane) (change : Change) (c : Control) → c.plane ≡ o → IsSteady c (changed_in o c change)
+in_steady None change c is = steady_refl c
+in_steady (Some plane) change c is = unless_steady _ change c plane is
+
+change_steady : (change : Change) (c : Control) → IsSteady c (change_applied c change)
+unfolding change_applied
+change_steady change c = in_steady c.plane change c refl
+
+fold_closed : (list : List Change) (c : Control) → (fold change_applied c list).closed ≡ c.closed
+fold_closed [] c = refl
+fold_closed (change ∷ list) c = fold_closed list (change_applied c change) ∙ (change_steady change c).closed
+
+fold_next : (list : List Change) (c : Control) → (fold change_applied c list).next ≤ c.next + length list
+fold_next [] c = omega arith
+fold_next (change ∷ list) c = omega (arith, fold_next list (change_applied c change), (change_steady change c).next)
+
+-- each change is an event of its own
+abbrev pub each : Origin → List Change → List Event
+each by list = map (events.Change by) list
+
+each_applied : (by : Origin) (list : List Change) (c : Control) → applied c (each by list) ≡ fold change_applied c list
+each_applied by [] c = refl
+each_applied by (change ∷ list) c = each_applied by list (change_applied c change)
+
+each_steps : (by : Origin) (list : List Change) → length (steps_of (each by list)) ≡ length list
+each_steps by [] = refl
+each_steps by (change ∷ list) = ap (λ n. suc n) (each_steps by list)
+
+each_length : (by : Origin) (list : List Change) → length (each by list) ≡ length list
+each_length by [] = refl
+each_length by (change ∷ list) = ap (λ n. suc n) (each_length by list)
+
+-- the changes that a list of updates makes
+abbrev pub made_by : Control → ℕ → List Update → List Change
+made_by c role updates = filter_map result_ok (outcomes c role updates)
+
+few_more : (r : Result Change Cause) (c : Control) (role : ℕ) (updates : List Update) → ((d : Control) → length (made_by d role updates) ≤ length updates)
+    → length (filter_map result_ok (r ∷ outcomes (state_after c r) role updates)) ≤ suc (length updates)
+few_more (Ok change) c role updates few = omega (arith, few (change_applied c change))
+few_more (Err cause) c role updates few = omega (arith, few c)
+
+made_few : (updates : List Update) (c : Control) (role : ℕ) → length (made_by c role updates) ≤ length updates
+made_few [] c role = omega arith
+made_few (update ∷ updates) c role = few_more (outcome c role update) c role updates (λ d. made_few updates d role)
+
+-- one more may be made, where the rest may be in the state behind it
+may_more : (r : Result Change Cause) (c : Control) (by : Origin) (update : Update) (updates : List Update) → bears (primary c by.role) by.election_id ≡ true → outcome c by.role update ≡ r
+    → ((d : Control) → bears (primary d by.role) by.election_id ≡ true → MayChanges d by (made_by d by.role updates))
+    → MayChanges c by (filter_map result_ok (r ∷ outcomes (state_after c r) by.role updates))
+may_more (Ok change) c by update updates h is rest =
+    (record { by_primary = h; update = update; no_cause = is }, rest (change_applied c change) ((change_steady change c).primaries by.role by.election_id ∙ h))
+may_more (Err cause) c by update updates h is rest = rest c h
+
+-- they may be made, each in its turn
+made_may : (updates : List Update) (c : Control) (by : Origin) → bears (primary c by.role) by.election_id ≡ true → MayChanges c by (made_by c by.role updates)
+made_may [] c by h = tt
+made_may (update ∷ updates) c by h = may_more (outcome c by.role update) c by update updates h refl (λ d. made_may updates d by)
+
+each_legal : (list : List Change) (c : Control) (by : Origin) → c.closed ≡ false → MayChanges c by list
+    → (rest : List Event) → Legal (applied c (each by list)) rest → Legal c (each by list ++ rest)
+each_legal [] c by alive may rest later = later
+each_legal (change ∷ list) c by alive may rest later =
+    ((alive, may.0), each_legal list (change_applied c change) by ((change_steady change c).closed ∙ alive) may.1 rest later)
+
+batch_legal : (list : List Change) (c : Control) (by : Origin) → c.closed ≡ false → length list ≤ 4096 → MayChanges c by list
+    → (rest : List Event) → Legal (applied c (batch by list)) rest → Legal c (batch by list ++ rest)
+batch_legal [] c by alive few may rest later = later
+batch_legal (change ∷ list) c by alive few may rest later = ((alive, omega arith, few, may), later)
+
+plain_sound : (c : Control) (code : Code) (messages : List (List ℕ)) → is_unavailable code ≡ false → IsSound c (plain code messages)
+plain_sound c code messages available = record {
+  available = available;
   no_packet = refl;
   all_steps = refl;
-  legal = λ h rest later. ((h, record { by_primary = ap (λ p. bridge_primary_id p 0) is; plane = plane; plane_is = is; no_cause = none }), later);
-  still_open = λ h. insert_into-closed c.plane c insert ∙ h;
-  one_step = omega arith;
-  one_number = insert_into-next c.plane c insert;
-}
-written_sound c lane k insert plane is (Some refused) some = record {
-  available = refl;
-  no_packet = refl;
-  all_steps = refl;
-  legal = λ h rest later. later;
-  still_open = λ h. h;
-  one_step = omega arith;
-  one_number = omega arith;
+  legal = λ alive rest later. later;
+  still_open = λ alive. alive;
+  few_steps = omega arith;
+  few_numbers = omega arith;
 }
 
-insert_sound : (c : Control) (lane k : ℕ) (insert : BridgeInsert) (o : Option Plane) → c.plane ≡ o → IsSound c (insert_answer o lane k insert)
-insert_sound c lane k insert None is = record {
-  available = refl;
-  no_packet = refl;
-  all_steps = refl;
-  legal = λ h rest later. later;
-  still_open = λ h. h;
-  one_step = omega arith;
-  one_number = omega arith;
-}
-insert_sound c lane k insert (Some plane) is = written_sound c lane k insert plane is (cause plane insert) refl
+-- no refusal is one for memory
+abbrev pub Available : Option Code → Type 0
+Available None = Unit {0}
+Available (Some code) = is_unavailable code ≡ false
 
-by_sound : (o : Option BridgeInsert) (c : Control) (lane k method : ℕ) → IsSound c (answer_by o c lane k method)
-by_sound None c lane k method = record {
-  available = refl;
-  no_packet = refl;
+-- the refusals of a Write, by what holds of it
+abbrev pub refusal_by : (device primary plane atomicity long : Bool) → Option Code
+refusal_by device primary plane atomicity long =
+    if not device then Some codes.NotFound else if not primary then Some codes.PermissionDenied else if not plane then Some codes.FailedPrecondition else
+    if not atomicity then Some codes.InvalidArgument else if long then Some codes.ResourceExhausted else None
+
+write_available : (a b c d e : Bool) → Available (refusal_by a b c d e)
+write_available true true true true false = tt
+write_available true true true true true = refl
+write_available true true true false e = refl
+write_available true true false d e = refl
+write_available true false c d e = refl
+write_available false b c d e = refl
+
+match_available : (a b c d : Bool) → Available (if not a then None else if b then Some codes.InvalidArgument else if c then Some codes.OutOfRange else if d then None else Some codes.InvalidArgument)
+match_available false b c d = tt
+match_available true true c d = refl
+match_available true false true d = refl
+match_available true false false true = tt
+match_available true false false false = refl
+
+in_available : (o : Option Table) (asked : TableEntry) → Available (entry_refusal_in o asked)
+in_available None asked = refl
+in_available (Some table) asked = match_available _ _ _ _
+
+entry_available : (a b : Bool) (o : Option Code) → Available o → Available (if a then (if b then Some codes.InvalidArgument else None) else o)
+entry_available true true o h = refl
+entry_available true false o h = tt
+entry_available false b o h = h
+
+entity_available : (info : Info) (asked : Option Entity) → Available (entity_refusal info asked)
+entity_available info None = refl
+entity_available info (Some (entities.TableEntry asked)) = entry_available _ _ _ (in_available (table_of asked.table_id info) asked)
+entity_available info (Some (entities.ActionProfileMember x)) = refl
+entity_available info (Some (entities.ActionProfileGroup x)) = refl
+entity_available info (Some (entities.CounterEntry x)) = refl
+entity_available info (Some (entities.DirectCounterEntry x)) = refl
+entity_available info (Some (entities.DigestEntry x)) = refl
+entity_available info (Some (entities.Other x)) = refl
+
+first_more : (o : Option Code) (others : List (Option Code)) → Available o → Available (first_of others) → Available (first_of (o ∷ others))
+first_more None others h rest = rest
+first_more (Some code) others h rest = h
+
+first_available : (info : Info) (list : List (Option Entity)) → Available (first_of (map (entity_refusal info) list))
+first_available info [] = tt
+first_available info (asked ∷ list) = first_more (entity_refusal info asked) _ (entity_available info asked) (first_available info list)
+
+-- what a refused Write has passed
+record HasPassed (c : Control) (request : WriteRequest) : Type 0 where
+  primary : bears (primary c request.role_id) request.election_id ≡ true
+  size : length request.updates ≤ 4096
+
+passed_by : (a b c d e : Bool) → refusal_by a b c d e ≡ None → (b ≡ true) × (e ≡ false)
+passed_by true true true true false h = (refl, refl)
+passed_by true true true true true h = absurd (cc)
+passed_by true true true false e h = absurd (cc)
+passed_by true true false d e h = absurd (cc)
+passed_by true false c d e h = absurd (cc)
+passed_by false b c d e h = absurd (cc)
+
+not_lt : (m n : ℕ) → nat_lt m n ≡ false → n ≤ m
+not_lt m n h = grind (arith, h)
+
+passed : (c : Control) (request : WriteRequest) → write_refusal c request ≡ None → HasPassed c request
+passed c request h =
+    let parts = passed_by (request.device_id == c.device) (bears (primary c request.role_id) request.election_id) (is_some c.plane) (is_atomicity request.atomicity) (nat_lt 4096 (length request.updates)) h in record { primary = parts.0; size = not_lt _ _ parts.1 }
+
+reply_available : (b : Bool) (errors : List (List ℕ)) → is_unavailable (write_reply b errors).code ≡ false
+reply_available true errors = refl
+reply_available false errors = refl
+
+reply_packet : (b : Bool) (errors : List (List ℕ)) → (write_reply b errors).packet ≡ None
+reply_packet true errors = refl
+reply_packet false errors = refl
+
+continued_sound : (c : Control) (by : Origin) (updates : List Update) → bears (primary c by.role) by.election_id ≡ true → length updates ≤ 4096
+    → IsSound c (continued by (outcomes c by.role updates))
+continued_sound c by updates primary size =
+    let list = made_by c by.role updates in
+    let few = made_few updates c by.role in record {
+      available = reply_available _ _;
+      no_packet = reply_packet _ _;
+      all_steps = each_steps by list ∙ sym (each_length by list);
+      legal = λ alive rest later. each_legal list c by alive (made_may updates c by primary) rest later;
+      still_open = λ alive. ap (λ d. d.closed) (each_applied by list c) ∙ fold_closed list c ∙ alive;
+      few_steps = omega (arith, each_steps by list, few, size);
+      few_numbers = omega (arith, ap (λ d. d.next) (each_applied by list c), fold_next list c, few, size);
+    }
+
+-- the events of a batch that succeeds
+record IsBatchSound (c : Control) (list : List Event) : Type 0 where
+  all_steps : length (steps_of list) ≡ length list
+  legal : c.closed ≡ false → (rest : List Event) → Legal (applied c list) rest → Legal c (list ++ rest)
+  closed : (applied c list).closed ≡ c.closed
+  few_steps : length (steps_of list) ≤ 4096
+  few_numbers : (applied c list).next ≤ c.next + 4096
+
+no_batch : (c : Control) → IsBatchSound c []
+no_batch c = record { all_steps = refl; legal = λ alive rest later. later; closed = refl; few_steps = omega arith; few_numbers = omega arith }
+
+one_batch : (c : Control) (by : Origin) (list : List Change) → length list ≤ 4096 → MayChanges c by list → IsBatchSound c (batch by list)
+one_batch c by [] few may = no_batch c
+one_batch c by (change ∷ list) few may = record {
   all_steps = refl;
-  legal = λ h rest later. later;
-  still_open = λ h. h;
-  one_step = omega arith;
-  one_number = omega arith;
+  legal = λ alive rest later. batch_legal (change ∷ list) c by alive few may rest later;
+  closed = fold_closed (change ∷ list) c;
+  few_steps = omega arith;
+  few_numbers = omega (arith, fold_next (change ∷ list) c, few);
 }
-by_sound (Some insert) c lane k method = insert_sound c lane k insert c.plane refl
+
+batch_unless : (b : Bool) (c : Control) (by : Origin) (list : List Change) → length list ≤ 4096 → MayChanges c by list → IsBatchSound c (if b then [] else batch by list)
+batch_unless true c by list few may = no_batch c
+batch_unless false c by list few may = one_batch c by list few may
+
+atomic_sound : (c : Control) (by : Origin) (updates : List Update) → bears (primary c by.role) by.election_id ≡ true → length updates ≤ 4096
+    → IsSound c (all_or_nothing by (outcomes c by.role updates))
+atomic_sound c by updates primary size =
+    let sound = batch_unless (has_failed (outcomes c by.role updates)) c by (made_by c by.role updates) (omega (arith, made_few updates c by.role, size)) (made_may updates c by primary) in record {
+      available = reply_available _ _;
+      no_packet = reply_packet _ _;
+      all_steps = sound.all_steps;
+      legal = sound.legal;
+      still_open = λ alive. sound.closed ∙ alive;
+      few_steps = sound.few_steps;
+      few_numbers = sound.few_numbers;
+    }
+
+written_sound : (b : Bool) (c : Control) (by : Origin) (updates : List Update) → bears (primary c by.role) by.election_id ≡ true → length updates ≤ 4096
+    → IsSound c (if b then all_or_nothing by (outcomes c by.role updates) else continued by (outcomes c by.role updates))
+written_sound true c by updates primary size = atomic_sound c by updates primary size
+written_sound false c by updates primary size = continued_sound c by updates primary size
+
+write_sound : (o : Option Code) (c : Control) (lane k : ℕ) (request : WriteRequest) → write_refusal c request ≡ o → Available o → IsSound c (write_unless o c lane k request)
+write_sound (Some code) c lane k request is available = plain_sound c code _ available
+write_sound None c lane k request is available =
+    let h = passed c request is in written_sound (is_atomic request.atomicity) c (origin lane k request) request.updates h.primary h.size
+
+unless_available : (o : Option Code) (plane : Plane) (list : List (Option Entity)) → Available o → IfErr (read_unless o plane list) (λ code. is_unavailable code ≡ false)
+unless_available None plane list h = tt
+unless_available (Some code) plane list h = h
+
+plane_available : (o : Option Plane) (request : ReadRequest) → IfErr (read_in o request) (λ code. is_unavailable code ≡ false)
+plane_available None request = refl
+plane_available (Some plane) request = unless_available _ plane request.entities (first_available plane.info request.entities)
+
+device_available : (b : Bool) (r : Result (List (List ℕ)) Code) → IfErr r (λ code. is_unavailable code ≡ false) → IfErr (if b then r else Err codes.NotFound) (λ code. is_unavailable code ≡ false)
+device_available true r h = h
+device_available false r h = refl
+
+read_available : (c : Control) (request : ReadRequest) → IfErr (read_result c request) (λ code. is_unavailable code ≡ false)
+unfolding read_result
+read_available c request = device_available (request.device_id == c.device) _ (plane_available c.plane request)
+
+read_sound : (c : Control) (r : Result (List (List ℕ)) Code) → IfErr r (λ code. is_unavailable code ≡ false) → IsSound c (read_reply r)
+read_sound c (Ok messages) h = plain_sound c codes.Ok messages refl
+read_sound c (Err code) h = plain_sound c code _ h
+
+pub answer_to_sound : (call : Call) (c : Control) (lane k : ℕ) → IsSound c (answer_to c lane k call)
+answer_to_sound (calls.Write request) c lane k = write_sound _ c lane k request refl (write_available (request.device_id == c.device) (bears (primary c request.role_id) request.election_id) (is_some c.plane) (is_atomicity request.atomicity) (nat_lt 4096 (length request.updates)))
+answer_to_sound (calls.Read request) c lane k = read_sound c _ (read_available c request)
+answer_to_sound (calls.Set request) c lane k = plain_sound c codes.Unimplemented _ refl
+answer_to_sound (calls.Get request) c lane k = plain_sound c codes.Unimplemented _ refl
+answer_to_sound (calls.Stream message) c lane k = plain_sound c codes.Unimplemented [] refl
+answer_to_sound calls.Capabilities c lane k = plain_sound c codes.Ok _ refl
+answer_to_sound (calls.Unreadable method) c lane k = plain_sound c codes.InvalidArgument _ refl
+answer_to_sound calls.Leave c lane k = plain_sound c codes.Unimplemented [] refl
 
 pub answer_sound : (c : Control) (lane k : ℕ) (call : LaneCall) → IsSound c (answer c lane k call)
 unfolding answer
-answer_sound c lane k call = by_sound _ c lane k call.method
+answer_sound c lane k call = answer_to_sound (call_of call.method call.message) c lane k

@@ -15,7 +15,7 @@ use Rattle.switch_spec.specs.Answer.{LaneCall}
 use Rattle.switch_spec.specs.Control.{applied, after}
 use Rattle.switch_spec.specs.History.{Made, History, Numbered, own_events, journal_events, published, is_refused_for_memory, expected, answered}
 use Rattle.switch_spec.specs.Meaning.{meaning, record_of}
-use Rattle.switch_spec.specs.Play.{Played, begun, next_call, next_packet, play_call, play_packet}
+use Rattle.switch_spec.specs.Play.{Played, begun, next_call, next_packet, play_call, play_packet, answering}
 use Rattle.switch_spec.specs.Report.{Arrival, Carried, Fits, InTurn, IsLockstepReport, Lockstep, TapeDeterminesReport, report_of}
 use Rattle.switch_spec.specs.ReportText.{is_who, report_text}
 use Rattle.switch_spec.proofs.Fitting.{IsAfter, after_call, state_after}
@@ -106,7 +106,7 @@ rest_of_packet start whole list p lane port packet tape journal x records is h =
 
 -- the rest of the run is the rest of the run in one pass
 determined : (start : Start) (whole list : List Event) (p : Played) (tape : List TapeRecord) (journal : List Made) (records : List Carried) → IsAfter start list p
-    → Rest start whole list p tape journal records → (journal ≡ made p tape) × (records ≡ carried p tape)
+    → Rest start whole list p tape journal records → (journal ≡ made p (map answering tape)) × (records ≡ carried p (map answering tape))
 determined start whole list p [] journal records h rest = (rest.follows.0, rest.follows.1)
 determined start whole list p (Call lane method message ∷ tape) [] records h rest = absurd rest.follows
 determined start whole list p (Call lane method message ∷ tape) (m ∷ journal) records h rest =
@@ -125,13 +125,13 @@ determined start whole list p (Packet lane port packet ∷ tape) journal (x ∷ 
 
 -- a lockstep report with no call refused for memory has the text of the run in one pass
 pub only_text : (start : Start) (tape : List TapeRecord) (text : List ℕ) (a : IsLockstepReport start tape text) → NoneRefused a.report.journal
-    → text ≡ report_text (report_of (made (begun start) tape) (carried (begun start) tape))
+    → text ≡ report_text (report_of (made (begun start) (map answering tape)) (carried (begun start) (map answering tape)))
 only_text start tape text a none =
     let run = a.report.run in
     let same = determined start (published start a.report.journal) [] (begun start) tape a.report.journal a.report.records
     (record { control = refl; steps = refl; all_steps = refl })
     (record { follows = a.lockstep; history = run.history; none_refused = none; numbered = run.numbered; in_turn = run.in_turn; fits = run.fits; is = refl }) in
-    a.report.written ∙ ap (λ j. report_text (report_of j a.report.records)) same.0 ∙ ap (λ r. report_text (report_of (made (begun start) tape) r)) same.1
+    a.report.written ∙ ap (λ j. report_text (report_of j a.report.records)) same.0 ∙ ap (λ r. report_text (report_of (made (begun start) (map answering tape)) r)) same.1
 
 pub tape_determines : TapeDeterminesReport
 tape_determines start tape one other a b left right = only_text start tape one a left ∙ sym (only_text start tape other b right)

@@ -7,14 +7,12 @@ use Rattle.std.specs.List.{zip, AllByRecursion}
 use Rattle.p4_types.specs.declared.events.Event.{Event}
 use Rattle.p4_types.specs.declared.events.Event.TheVariants as events
 use Rattle.p4_types.specs.declared.events.Start.{Start}
-use Rattle.p4_types.specs.declared.tape.TapeRecord.{TapeRecord}
-use Rattle.p4_types.specs.declared.tape.TapeRecord.TheVariants.{Call, Packet}
 use Rattle.p4_types.specs.declared.tape.Who.TheVariants.{Worker}
 use Rattle.switch_spec.specs.Answer.{LaneCall}
 use Rattle.switch_spec.specs.Control.{opened, apply, applied, Legal, after}
 use Rattle.switch_spec.specs.History.{journal_events, published, step_of, steps_of}
 use Rattle.switch_spec.specs.Meaning.{meaning, record_of}
-use Rattle.switch_spec.specs.Play.{Played, begun, next_call, next_packet, play_call, play_packet, played, played_report}
+use Rattle.switch_spec.specs.Play.{Played, begun, next_call, next_packet, play_call, play_refusal, play_packet, Turn, Answers, Refuses, Carries, items_of, played, played_report}
 use Rattle.switch_spec.specs.Report.{Carried, Fits, made_with_packet, IsRun, IsLockstepReport, report_of}
 use Rattle.switch_spec.specs.ReportText.{report_text}
 use Rattle.switch_spec.proofs.Answers.{answer_sound}
@@ -22,29 +20,32 @@ use Rattle.switch_spec.proofs.Following.{calls_follow, packets_follow, none_of_c
 use Rattle.switch_spec.proofs.Playing.{call_events, made, carried, own_events_of, journal_played, records_played, lockstep_played, history_played, numbered_played, in_turn_played}
 
 -- the events that the rest of a tape adds
-abbrev pub events_from : Played → List TapeRecord → List Event
+abbrev pub events_from : Played → List Turn → List Event
 events_from p [] = []
-events_from p (Call lane method message ∷ tape) =
+events_from p (Answers lane method message ∷ tape) =
     let call : LaneCall = record { method = method; message = message } in call_events p lane call ++ events_from (play_call p lane call) tape
-events_from p (Packet lane port packet ∷ tape) = events_from (play_packet p lane port packet) tape
+events_from p (Refuses lane method message ∷ tape) = events_from (play_refusal p lane) tape
+events_from p (Carries lane port packet ∷ tape) = events_from (play_packet p lane port packet) tape
 
-pub events_played : (p : Played) (tape : List TapeRecord) → journal_events p.control (made p tape) ≡ events_from p tape
+pub events_played : (p : Played) (tape : List Turn) → journal_events p.control (made p tape) ≡ events_from p tape
 events_played p [] = refl
-events_played p (Call lane method message ∷ tape) =
+events_played p (Answers lane method message ∷ tape) =
     let call : LaneCall = record { method = method; message = message } in
     ap (λ (list : List Event). list ++ journal_events (applied p.control list) (made (play_call p lane call) tape)) (own_events_of p.control p.steps lane (next_call lane p) call)
     ∙ ap (λ (rest : List Event). call_events p lane call ++ rest) (events_played (play_call p lane call) tape)
-events_played p (Packet lane port packet ∷ tape) = events_played (play_packet p lane port packet) tape
+events_played p (Refuses lane method message ∷ tape) = events_played (play_refusal p lane) tape
+events_played p (Carries lane port packet ∷ tape) = events_played (play_packet p lane port packet) tape
 
-pub legal_played : (p : Played) (tape : List TapeRecord) → p.control.closed ≡ false → Legal p.control (events_from p tape ++ events.Close ∷ [])
+pub legal_played : (p : Played) (tape : List Turn) → p.control.closed ≡ false → Legal p.control (events_from p tape ++ events.Close ∷ [])
 legal_played p [] h = (h, tt)
-legal_played p (Call lane method message ∷ tape) h =
+legal_played p (Answers lane method message ∷ tape) h =
     let call : LaneCall = record { method = method; message = message } in
     let sound = answer_sound p.control lane (next_call lane p) call in
     let P : List Event → Type 0 = λ list. Legal p.control list in
     subst P (sym (append_assoc (call_events p lane call) (events_from (play_call p lane call) tape) (events.Close ∷ [])))
     (sound.legal h _ (legal_played (play_call p lane call) tape (sound.still_open h)))
-legal_played p (Packet lane port packet ∷ tape) h = legal_played (play_packet p lane port packet) tape h
+legal_played p (Refuses lane method message ∷ tape) h = legal_played (play_refusal p lane) tape h
+legal_played p (Carries lane port packet ∷ tape) h = legal_played (play_packet p lane port packet) tape h
 
 -- The state is that after these events, each of which is a step.
 pub record IsAfter (start : Start) (list : List Event) (p : Played) : Type 0 where
@@ -72,14 +73,16 @@ pub in_list_after : (start : Start) (list rest : List Event) (p : Played) → Is
 in_list_after start list rest p h =
     omega (arith, h.steps, h.all_steps, ap length (filter_map-append step_of list rest), length-append (steps_of list) (steps_of rest))
 
-pub fits_played : (start : Start) (whole : List Event) (p : Played) (tape : List TapeRecord) (list : List Event) → IsAfter start list p
+pub fits_played : (start : Start) (whole : List Event) (p : Played) (tape : List Turn) (list : List Event) → IsAfter start list p
     → whole ≡ list ++ (events_from p tape ++ events.Close ∷ []) → AllByRecursion (Fits start whole) (carried p tape)
 fits_played start whole p [] list h is = tt
-fits_played start whole p (Call lane method message ∷ tape) list h is =
+fits_played start whole p (Answers lane method message ∷ tape) list h is =
     let call : LaneCall = record { method = method; message = message } in
     fits_played start whole (play_call p lane call) tape (list ++ call_events p lane call) (after_call start list p lane call h)
     (is ∙ ap (λ rest. list ++ rest) (append_assoc (call_events p lane call) _ _) ∙ sym (append_assoc list (call_events p lane call) _))
-fits_played start whole p (Packet lane port packet ∷ tape) list h is =
+fits_played start whole p (Refuses lane method message ∷ tape) list h is =
+    fits_played start whole (play_refusal p lane) tape list (record { control = h.control; steps = h.steps; all_steps = h.all_steps }) is
+fits_played start whole p (Carries lane port packet ∷ tape) list h is =
     let rest : List Event = events_from (play_packet p lane port packet) tape ++ events.Close ∷ [] in (
       record {
         in_list = let P : List Event → Type 0 = λ all. p.steps ≤ length (steps_of all) in subst P (sym is) (in_list_after start list rest p h);
@@ -89,33 +92,33 @@ fits_played start whole p (Packet lane port packet ∷ tape) list h is =
     )
 
 -- the run in one pass is a run of the tape
-pub run_played : (start : Start) (tape : List TapeRecord) → IsRun start tape (made (begun start) tape) (carried (begun start) tape)
+pub run_played : (start : Start) (tape : List Turn) → IsRun start (items_of tape) (made (begun start) tape) (carried (begun start) tape)
 run_played start tape =
     let p : Played = begun start in
     let follows = lockstep_played p tape in
     let end_is : published start (made p tape) ≡ events_from p tape ++ events.Close ∷ [] = ap (λ list. list ++ events.Close ∷ []) (events_played p tape) in
     let P : List Event → Type 0 = λ list. Legal (opened start) list in
     record {
-      calls = λ lane. calls_follow lane 0 tape _ _ follows;
+      calls = λ lane. calls_follow lane 0 (items_of tape) _ _ follows;
       numbered = numbered_played p tape;
       history = history_played p tape;
       legal = subst P (sym end_is) (legal_played p tape refl);
-      packets = λ lane. packets_follow lane 0 tape _ _ follows;
-      out = λ lane. ap (map (λ c. c.arrival)) (none_of_controllers lane 0 tape _ _ follows) ∙ sym (no_packets_out start lane (opened start) 0 _ (history_played p tape));
+      packets = λ lane. packets_follow lane 0 (items_of tape) _ _ follows;
+      out = λ lane. ap (map (λ c. c.arrival)) (none_of_controllers lane 0 (items_of tape) _ _ follows) ∙ sym (no_packets_out start lane (opened start) 0 _ (history_played p tape));
       covers = λ lane.
           let Q : List Carried → Type 0 = λ list. AllByRecursion (λ x. x.1.entry.reply.steps ≤ x.0.outcome.steps) (zip list (made_with_packet lane (made p tape))) in
-          subst Q (sym (none_of_controllers lane 0 tape _ _ follows)) tt;
+          subst Q (sym (none_of_controllers lane 0 (items_of tape) _ _ follows)) tt;
       in_turn = in_turn_played p tape tt;
       fits = fits_played start _ p tape [] (record { control = refl; steps = refl; all_steps = refl }) end_is;
     }
 
-pub report_played : (start : Start) (tape : List TapeRecord) → played_report (played start tape) ≡ report_of (made (begun start) tape) (carried (begun start) tape)
+pub report_played : (start : Start) (tape : List Turn) → played_report (played start tape) ≡ report_of (made (begun start) tape) (carried (begun start) tape)
 report_played start tape =
     ap (λ p. record { journal = p; sent = []; records = (played start tape).records; counts = []; cells = [] }) (journal_played (begun start) tape)
     ∙ ap (λ r. record { journal = map (λ m. m.entry) (made (begun start) tape); sent = []; records = r; counts = []; cells = [] }) (records_played (begun start) tape)
 
 -- its text is the lockstep report of the tape
-pub played_is_report : (start : Start) (tape : List TapeRecord) → IsLockstepReport start tape (report_text (played_report (played start tape)))
+pub played_is_report : (start : Start) (tape : List Turn) → IsLockstepReport start (items_of tape) (report_text (played_report (played start tape)))
 played_is_report start tape = record {
   report = record {
     journal = made (begun start) tape;

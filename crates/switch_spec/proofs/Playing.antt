@@ -1,18 +1,16 @@
 -- The run in one pass over the tape is a run of the tape.
-use Rattle.std.proofs.Common.{◌≡◌, ℕ, ◌+◌, ◌≤◌, List, [], ◌∷◌, ◌++◌, length, map, refl, ◌∙◌, sym, subst, append_assoc, arith}
+use Rattle.std.proofs.Common.{◌≡◌, ℕ, ◌+◌, ◌≤◌, List, [], ◌∷◌, ◌++◌, length, map, refl, ◌∙◌, sym, subst, append_assoc, add-zero, arith}
 use Rattle.std.proofs.lemmas.List.{append-nil}
 use Rattle.std.proofs.lemmas.Bool.{cond-false}
 use Rattle.std.specs.Prelude.{fold}
 use Rattle.std.specs.List.{AllByRecursion}
 use Rattle.p4_types.specs.declared.events.Event.{Event}
-use Rattle.p4_types.specs.declared.tape.TapeRecord.{TapeRecord}
-use Rattle.p4_types.specs.declared.tape.TapeRecord.TheVariants.{Call, Packet}
 use Rattle.p4_types.specs.declared.tape.Who.TheVariants.{Worker}
 use Rattle.switch_spec.specs.Answer.{LaneCall, answer}
 use Rattle.switch_spec.specs.Control.{Control, applied}
-use Rattle.switch_spec.specs.History.{Made, History, Numbered, own_events, steps_of, expected, answered}
+use Rattle.switch_spec.specs.History.{Made, History, Numbered, own_events, steps_of, expected, answered, refused_for_memory}
 use Rattle.switch_spec.specs.Meaning.{meaning, record_of}
-use Rattle.switch_spec.specs.Play.{Played, next_call, next_packet, play_call, play_packet, play}
+use Rattle.switch_spec.specs.Play.{Played, next_call, next_packet, play_call, play_refusal, play_packet, Turn, Answers, Refuses, Carries, items_of, play}
 use Rattle.switch_spec.specs.Report.{Carried, InTurn, Lockstep}
 use Rattle.switch_spec.specs.ReportText.{is_who}
 use Rattle.switch_spec.proofs.Answers.{answer_sound}
@@ -26,40 +24,49 @@ call_events p lane call = (answer p.control lane (next_call lane p) call).events
 abbrev pub made_call : Played → ℕ → LaneCall → Made
 made_call p lane call = record { call = call; entry = answered p.control p.steps lane (next_call lane p) call }
 
+-- a lane's next call, for which there is no memory
+abbrev pub made_refusal : Played → ℕ → LaneCall → Made
+made_refusal p lane call = record { call = call; entry = refused_for_memory p.steps lane (next_call lane p) }
+
 -- a worker's next packet with its record
 abbrev pub carried_packet : Played → ℕ → ℕ → List ℕ → Carried
 carried_packet p lane port packet =
     record { arrival = (port, packet); outcome = record_of (Worker lane) (next_packet lane p) p.steps (meaning p.control port packet) }
 
 -- the calls that the rest of a tape makes
-abbrev pub made : Played → List TapeRecord → List Made
+abbrev pub made : Played → List Turn → List Made
 made p [] = []
-made p (Call lane method message ∷ tape) =
+made p (Answers lane method message ∷ tape) =
     let call : LaneCall = record { method = method; message = message } in made_call p lane call ∷ made (play_call p lane call) tape
-made p (Packet lane port packet ∷ tape) = made (play_packet p lane port packet) tape
+made p (Refuses lane method message ∷ tape) = made_refusal p lane (record { method = method; message = message }) ∷ made (play_refusal p lane) tape
+made p (Carries lane port packet ∷ tape) = made (play_packet p lane port packet) tape
 
 -- the packets that it brings
-abbrev pub carried : Played → List TapeRecord → List Carried
+abbrev pub carried : Played → List Turn → List Carried
 carried p [] = []
-carried p (Call lane method message ∷ tape) = carried (play_call p lane (record { method = method; message = message })) tape
-carried p (Packet lane port packet ∷ tape) = carried_packet p lane port packet ∷ carried (play_packet p lane port packet) tape
+carried p (Answers lane method message ∷ tape) = carried (play_call p lane (record { method = method; message = message })) tape
+carried p (Refuses lane method message ∷ tape) = carried (play_refusal p lane) tape
+carried p (Carries lane port packet ∷ tape) = carried_packet p lane port packet ∷ carried (play_packet p lane port packet) tape
 
-pub journal_played : (p : Played) (tape : List TapeRecord) → (fold play p tape).journal ≡ p.journal ++ map (λ m. m.entry) (made p tape)
+pub journal_played : (p : Played) (tape : List Turn) → (fold play p tape).journal ≡ p.journal ++ map (λ m. m.entry) (made p tape)
 unfolding play
 journal_played p [] = sym (append-nil p.journal)
-journal_played p (Call lane method message ∷ tape) = journal_played (play_call p lane _) tape ∙ append_assoc p.journal _ _
-journal_played p (Packet lane port packet ∷ tape) = journal_played (play_packet p lane port packet) tape
+journal_played p (Answers lane method message ∷ tape) = journal_played (play_call p lane _) tape ∙ append_assoc p.journal _ _
+journal_played p (Refuses lane method message ∷ tape) = journal_played (play_refusal p lane) tape ∙ append_assoc p.journal _ _
+journal_played p (Carries lane port packet ∷ tape) = journal_played (play_packet p lane port packet) tape
 
-pub records_played : (p : Played) (tape : List TapeRecord) → (fold play p tape).records ≡ p.records ++ map (λ c. c.outcome) (carried p tape)
+pub records_played : (p : Played) (tape : List Turn) → (fold play p tape).records ≡ p.records ++ map (λ c. c.outcome) (carried p tape)
 unfolding play
 records_played p [] = sym (append-nil p.records)
-records_played p (Call lane method message ∷ tape) = records_played (play_call p lane _) tape
-records_played p (Packet lane port packet ∷ tape) = records_played (play_packet p lane port packet) tape ∙ append_assoc p.records _ _
+records_played p (Answers lane method message ∷ tape) = records_played (play_call p lane _) tape
+records_played p (Refuses lane method message ∷ tape) = records_played (play_refusal p lane) tape
+records_played p (Carries lane port packet ∷ tape) = records_played (play_packet p lane port packet) tape ∙ append_assoc p.records _ _
 
-pub lockstep_played : (p : Played) (tape : List TapeRecord) → Lockstep p.steps tape (made p tape) (carried p tape)
+pub lockstep_played : (p : Played) (tape : List Turn) → Lockstep p.steps (items_of tape) (made p tape) (carried p tape)
 lockstep_played p [] = (refl, refl)
-lockstep_played p (Call lane method message ∷ tape) = (refl, refl, lockstep_played (play_call p lane _) tape)
-lockstep_played p (Packet lane port packet ∷ tape) = (refl, refl, refl, lockstep_played (play_packet p lane port packet) tape)
+lockstep_played p (Answers lane method message ∷ tape) = (refl, refl, lockstep_played (play_call p lane _) tape)
+lockstep_played p (Refuses lane method message ∷ tape) = (refl, refl, lockstep_played (play_refusal p lane) tape)
+lockstep_played p (Carries lane port packet ∷ tape) = (refl, refl, refl, lockstep_played (play_packet p lane port packet) tape)
 
 -- a call that is answered has the entry that it has to have, and its events are its own
 pub is_expected : (c : Control) (n lane k : ℕ) (call : LaneCall)
@@ -70,29 +77,33 @@ pub own_events_of : (c : Control) (n lane k : ℕ) (call : LaneCall)
     → own_events c (record { call = call; entry = answered c n lane k call }) ≡ (answer c lane k call).events
 own_events_of c n lane k call = cond-false _ _ _ (answer_sound c lane k call).available
 
-pub history_played : (p : Played) (tape : List TapeRecord) → History p.control p.steps (made p tape)
+pub history_played : (p : Played) (tape : List Turn) → History p.control p.steps (made p tape)
 history_played p [] = tt
-history_played p (Call lane method message ∷ tape) =
+history_played p (Answers lane method message ∷ tape) =
     let call : LaneCall = record { method = method; message = message } in
     let rest : History (play_call p lane call).control (play_call p lane call).steps (made (play_call p lane call) tape) = history_played (play_call p lane call) tape in (
       is_expected p.control p.steps lane (next_call lane p) call,
       let P : List Event → Type 0 = λ list. History (applied p.control list) (play_call p lane call).steps (made (play_call p lane call) tape) in
           subst P (sym (own_events_of p.control p.steps lane (next_call lane p) call)) rest,
     )
-history_played p (Packet lane port packet ∷ tape) = history_played (play_packet p lane port packet) tape
+history_played p (Refuses lane method message ∷ tape) =
+    let P : ℕ → Type 0 = λ n. History p.control n (made (play_refusal p lane) tape) in (refl, subst P (sym (add-zero p.steps)) (history_played (play_refusal p lane) tape))
+history_played p (Carries lane port packet ∷ tape) = history_played (play_packet p lane port packet) tape
 
-pub numbered_played : (p : Played) (tape : List TapeRecord) → Numbered p.journal (map (λ m. m.entry) (made p tape))
+pub numbered_played : (p : Played) (tape : List Turn) → Numbered p.journal (map (λ m. m.entry) (made p tape))
 numbered_played p [] = tt
-numbered_played p (Call lane method message ∷ tape) = (refl, numbered_played (play_call p lane _) tape)
-numbered_played p (Packet lane port packet ∷ tape) = numbered_played (play_packet p lane port packet) tape
+numbered_played p (Answers lane method message ∷ tape) = (refl, numbered_played (play_call p lane _) tape)
+numbered_played p (Refuses lane method message ∷ tape) = (refl, numbered_played (play_refusal p lane) tape)
+numbered_played p (Carries lane port packet ∷ tape) = numbered_played (play_packet p lane port packet) tape
 
-pub in_turn_played : (p : Played) (tape : List TapeRecord) → AllByRecursion (λ r. r.steps ≤ p.steps) p.records → InTurn p.records (map (λ c. c.outcome) (carried p tape))
+pub in_turn_played : (p : Played) (tape : List Turn) → AllByRecursion (λ r. r.steps ≤ p.steps) p.records → InTurn p.records (map (λ c. c.outcome) (carried p tape))
 in_turn_played p [] h = tt
-in_turn_played p (Call lane method message ∷ tape) h =
+in_turn_played p (Answers lane method message ∷ tape) h =
     let call : LaneCall = record { method = method; message = message } in
     in_turn_played (play_call p lane call) tape
     (All-weaken (λ r. r.steps ≤ p.steps) (λ r. r.steps ≤ p.steps + length (steps_of (call_events p lane call))) (λ r le. omega (arith, le)) p.records h)
-in_turn_played p (Packet lane port packet ∷ tape) h = (
+in_turn_played p (Refuses lane method message ∷ tape) h = in_turn_played (play_refusal p lane) tape h
+in_turn_played p (Carries lane port packet ∷ tape) h = (
   refl,
   All-filter (λ r. r.steps ≤ p.steps) (λ r. is_who (Worker lane) r.who) p.records h,
   in_turn_played (play_packet p lane port packet) tape (All-snoc (λ r. r.steps ≤ p.steps) p.records _ h (omega arith)),

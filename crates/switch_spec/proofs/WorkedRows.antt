@@ -1,39 +1,54 @@
 -- The worked runs, computed.
-use Rattle.std.proofs.Common.{◌≡◌, ℕ, List, refl, subst}
+use Rattle.std.proofs.Common.{◌≡◌, ℕ, List, [], ◌∷◌, map, refl, subst}
 use Rattle.std.specs.Fmt.{digits}
 use Rattle.hex.specs.Hex.{encode_with}
 use Rattle.p4_types.specs.declared.tape.TapeRecord.{TapeRecord}
-use Rattle.wire_fields.specs.Spelling.{varint_from}
+use Rattle.p4_types.specs.declared.tape.TapeRecord.TheVariants.{Packet}
+use Rattle.canon_bytes.specs.Bits.{bits, num}
+use Rattle.canon_bytes.specs.ByteString.{canon}
+use Rattle.p4v1_read.specs.Calls.{call_by}
+use Rattle.p4v1_read.specs.Entities.{param_of, action_of, exact_of, ternary_of, lpm_of, range_of, optional_of, kind_by, kind_of, field_match_of, profile_action_of, action_set_of, table_action_by, table_action_of, counter_data_of, table_entry_of, profile_member_of, group_member_of, profile_group_of, index_of, counter_entry_of, direct_counter_entry_of, digest_config_of, digest_entry_of, entity_by, entity_of}
+use Rattle.p4v1_read.specs.MessageFields.{fields_in, fields_of}
+use Rattle.p4v1_read.specs.Nested.{one_at, all_at, inside_at, member_at, opaque_at}
+use Rattle.p4v1_read.specs.Requests.{uint128_of, election_id_at, update_of, write_request_of, read_request_of, cookie_of, config_of, set_request_of, get_request_of}
+use Rattle.p4v1_read.specs.Stream.{any_of, status_of, role_of, arbitration_of, metadata_of, packet_out_of, digest_ack_of, stream_by, stream_of}
 use Rattle.switch_spec.specs.Answer.{answer}
-use Rattle.switch_spec.specs.Insert.{insert_bytes, insert_of}
+use Rattle.switch_spec.specs.Bridge.{bridge_info}
+use Rattle.switch_spec.specs.Control.{change_applied, outcome}
+use Rattle.switch_spec.specs.Entries.{best, entry_named, insert_cause, absence_cause, inserted, modified, deleted}
 use Rattle.switch_spec.specs.Meaning.{meaning}
-use Rattle.switch_spec.specs.Play.{play, played, played_report}
+use Rattle.switch_spec.specs.Play.{Turn, items_of, answering, play, played, played_report}
+use Rattle.switch_spec.specs.Reading.{chunks, read_result}
+use Rattle.switch_spec.specs.Status.{status_bytes, error_bytes, aborted_bytes, detail_bytes, write_status, capabilities_bytes}
+use Rattle.switch_spec.specs.UpdateRules.{entry_cause, resolution}
+use Rattle.wire_fields.specs.Reading.{varint_in, bytes_at as length_bytes_at, tag_at, field_at}
+use Rattle.wire_fields.specs.Spelling.{varint_from}
+use Rattle.wire_messages.specs.Message.{number_at, packed_in, uint32s_at, bytes_at, text_at, texts_at, messages_at, message_at, choice_at}
 use Rattle.switch_spec.specs.Report.{IsLockstepReport}
 use Rattle.switch_spec.specs.ReportText.{report_text}
-use Rattle.switch_spec.specs.Status.{status_bytes, error_bytes, detail_bytes, write_status}
-use Rattle.switch_spec.specs.Rows.{bridge_start, EmptyTape, OneEntryOnePacket, InsertTwice, TableFull, ShortPacket}
+use Rattle.switch_spec.specs.Rows.{inserting, frame_to, cut_frame, bridge_start, EmptyTape, OneEntryOnePacket, InsertTwice, TableFull, ShortPacket}
 use Rattle.switch_spec.proofs.Fitting.{played_is_report}
 
--- the report of a tape whose run computes to this text
-worked : (tape : List TapeRecord) (text : List ℕ) → report_text (played_report (played bridge_start tape)) ≡ text → IsLockstepReport bridge_start tape text
-worked tape text is = let P : List ℕ → Type 0 = λ t. IsLockstepReport bridge_start tape t in subst P is (played_is_report bridge_start tape)
+-- the report of turns whose run computes to this text
+worked : (turns : List Turn) (text : List ℕ) → report_text (played_report (played bridge_start turns)) ≡ text → IsLockstepReport bridge_start (items_of turns) text
+worked turns text is = let P : List ℕ → Type 0 = λ t. IsLockstepReport bridge_start (items_of turns) t in subst P is (played_is_report bridge_start turns)
 
 pub empty_tape : EmptyTape
-unfolding play answer insert_of insert_bytes meaning varint_from digits encode_with status_bytes error_bytes detail_bytes write_status
-empty_tape = record { bytes = refl; report = worked _ _ refl }
+unfolding bits num canon call_by param_of action_of exact_of ternary_of lpm_of range_of optional_of kind_by kind_of field_match_of profile_action_of action_set_of table_action_by table_action_of counter_data_of table_entry_of profile_member_of group_member_of profile_group_of index_of counter_entry_of direct_counter_entry_of digest_config_of digest_entry_of entity_by entity_of fields_in fields_of one_at all_at inside_at member_at opaque_at uint128_of election_id_at update_of write_request_of read_request_of cookie_of config_of set_request_of get_request_of any_of status_of role_of arbitration_of metadata_of packet_out_of digest_ack_of stream_by stream_of answer bridge_info change_applied outcome best entry_named insert_cause absence_cause inserted modified deleted meaning play chunks read_result status_bytes error_bytes aborted_bytes detail_bytes write_status capabilities_bytes entry_cause resolution varint_in length_bytes_at tag_at field_at varint_from number_at packed_in uint32s_at bytes_at text_at texts_at messages_at message_at choice_at digits encode_with
+empty_tape = record { bytes = refl; report = worked (map answering ([])) _ refl }
 
 pub one_entry_one_packet : OneEntryOnePacket
-unfolding play answer insert_of insert_bytes meaning varint_from digits encode_with status_bytes error_bytes detail_bytes write_status
-one_entry_one_packet = record { bytes = refl; report = worked _ _ refl }
+unfolding bits num canon call_by param_of action_of exact_of ternary_of lpm_of range_of optional_of kind_by kind_of field_match_of profile_action_of action_set_of table_action_by table_action_of counter_data_of table_entry_of profile_member_of group_member_of profile_group_of index_of counter_entry_of direct_counter_entry_of digest_config_of digest_entry_of entity_by entity_of fields_in fields_of one_at all_at inside_at member_at opaque_at uint128_of election_id_at update_of write_request_of read_request_of cookie_of config_of set_request_of get_request_of any_of status_of role_of arbitration_of metadata_of packet_out_of digest_ack_of stream_by stream_of answer bridge_info change_applied outcome best entry_named insert_cause absence_cause inserted modified deleted meaning play chunks read_result status_bytes error_bytes aborted_bytes detail_bytes write_status capabilities_bytes entry_cause resolution varint_in length_bytes_at tag_at field_at varint_from number_at packed_in uint32s_at bytes_at text_at texts_at messages_at message_at choice_at digits encode_with
+one_entry_one_packet = record { bytes = refl; report = worked (map answering (inserting 2 ∷ Packet 0 1 (frame_to 2) ∷ Packet 0 1 (frame_to 3) ∷ [])) _ refl }
 
 pub insert_twice : InsertTwice
-unfolding play answer insert_of insert_bytes meaning varint_from digits encode_with status_bytes error_bytes detail_bytes write_status
-insert_twice = record { bytes = refl; report = worked _ _ refl }
+unfolding bits num canon call_by param_of action_of exact_of ternary_of lpm_of range_of optional_of kind_by kind_of field_match_of profile_action_of action_set_of table_action_by table_action_of counter_data_of table_entry_of profile_member_of group_member_of profile_group_of index_of counter_entry_of direct_counter_entry_of digest_config_of digest_entry_of entity_by entity_of fields_in fields_of one_at all_at inside_at member_at opaque_at uint128_of election_id_at update_of write_request_of read_request_of cookie_of config_of set_request_of get_request_of any_of status_of role_of arbitration_of metadata_of packet_out_of digest_ack_of stream_by stream_of answer bridge_info change_applied outcome best entry_named insert_cause absence_cause inserted modified deleted meaning play chunks read_result status_bytes error_bytes aborted_bytes detail_bytes write_status capabilities_bytes entry_cause resolution varint_in length_bytes_at tag_at field_at varint_from number_at packed_in uint32s_at bytes_at text_at texts_at messages_at message_at choice_at digits encode_with
+insert_twice = record { bytes = refl; report = worked (map answering (inserting 2 ∷ inserting 2 ∷ [])) _ refl }
 
 pub table_full : TableFull
-unfolding play answer insert_of insert_bytes meaning varint_from digits encode_with status_bytes error_bytes detail_bytes write_status
-table_full = record { bytes = refl; report = worked _ _ refl }
+unfolding bits num canon call_by param_of action_of exact_of ternary_of lpm_of range_of optional_of kind_by kind_of field_match_of profile_action_of action_set_of table_action_by table_action_of counter_data_of table_entry_of profile_member_of group_member_of profile_group_of index_of counter_entry_of direct_counter_entry_of digest_config_of digest_entry_of entity_by entity_of fields_in fields_of one_at all_at inside_at member_at opaque_at uint128_of election_id_at update_of write_request_of read_request_of cookie_of config_of set_request_of get_request_of any_of status_of role_of arbitration_of metadata_of packet_out_of digest_ack_of stream_by stream_of answer bridge_info change_applied outcome best entry_named insert_cause absence_cause inserted modified deleted meaning play chunks read_result status_bytes error_bytes aborted_bytes detail_bytes write_status capabilities_bytes entry_cause resolution varint_in length_bytes_at tag_at field_at varint_from number_at packed_in uint32s_at bytes_at text_at texts_at messages_at message_at choice_at digits encode_with
+table_full = record { bytes = refl; report = worked (map answering (inserting 2 ∷ inserting 3 ∷ inserting 4 ∷ inserting 5 ∷ inserting 6 ∷ [])) _ refl }
 
 pub short_packet : ShortPacket
-unfolding play answer insert_of insert_bytes meaning varint_from digits encode_with status_bytes error_bytes detail_bytes write_status
-short_packet = record { bytes = refl; report = worked _ _ refl }
+unfolding bits num canon call_by param_of action_of exact_of ternary_of lpm_of range_of optional_of kind_by kind_of field_match_of profile_action_of action_set_of table_action_by table_action_of counter_data_of table_entry_of profile_member_of group_member_of profile_group_of index_of counter_entry_of direct_counter_entry_of digest_config_of digest_entry_of entity_by entity_of fields_in fields_of one_at all_at inside_at member_at opaque_at uint128_of election_id_at update_of write_request_of read_request_of cookie_of config_of set_request_of get_request_of any_of status_of role_of arbitration_of metadata_of packet_out_of digest_ack_of stream_by stream_of answer bridge_info change_applied outcome best entry_named insert_cause absence_cause inserted modified deleted meaning play chunks read_result status_bytes error_bytes aborted_bytes detail_bytes write_status capabilities_bytes entry_cause resolution varint_in length_bytes_at tag_at field_at varint_from number_at packed_in uint32s_at bytes_at text_at texts_at messages_at message_at choice_at digits encode_with
+short_packet = record { bytes = refl; report = worked (map answering (inserting 0 ∷ Packet 0 1 cut_frame ∷ [])) _ refl }

@@ -1,15 +1,23 @@
--- The answer to a call (P4Runtime 1.3.0, "Write RPC", "Error Reporting").
-use Rattle.std.specs.Prelude.{ℕ, ◌==◌, if◌then◌else◌, List, [], ◌∷◌, Option, Some, None}
-use Rattle.p4_types.specs.declared.bridge.BridgeInsert.{BridgeInsert}
+-- The answer to a call (P4Runtime 1.3.0, "Write RPC", "Error Reporting"; the order of a Write's refusals: this project's profile).
+use Rattle.std.specs.Prelude.{ℕ, ℤ, pos, negsuc, ◌==◌, nat_lt, nat_le, not, Bool, true, false, if◌then◌else◌, List, [], ◌∷◌, map, length, Option, Some, None, is_some, Result, Ok, Err, is_err}
+use Rattle.std.specs.List.{filter_map, list_any}
+use Rattle.std.specs.Result.{result_ok}
+use Rattle.p4_types.specs.declared.calls.Call.{Call}
+use Rattle.p4_types.specs.declared.calls.Call.TheVariants as calls
 use Rattle.p4_types.specs.declared.calls.Notice.{Notice}
 use Rattle.p4_types.specs.declared.code.Cause.{Cause}
 use Rattle.p4_types.specs.declared.code.Code.{Code}
 use Rattle.p4_types.specs.declared.code.Code.TheVariants as codes
 use Rattle.p4_types.specs.declared.events.Event.{Event}
-use Rattle.p4_types.specs.declared.events.Event.TheVariants.{Change}
-use Rattle.switch_spec.specs.Control.{Control, Plane, cause}
-use Rattle.switch_spec.specs.Insert.{insert_of}
-use Rattle.switch_spec.specs.Status.{status_bytes, write_status}
+use Rattle.p4_types.specs.declared.events.Event.TheVariants as events
+use Rattle.p4_types.specs.declared.events.Origin.{Origin}
+use Rattle.p4_types.specs.declared.messages.Update.{Update}
+use Rattle.p4_types.specs.declared.messages.WriteRequest.{WriteRequest}
+use Rattle.p4_types.specs.declared.table.Change.{Change}
+use Rattle.p4v1_read.specs.Calls.{call_of}
+use Rattle.switch_spec.specs.Control.{Control, Plane, primary, bears, outcome, change_applied}
+use Rattle.switch_spec.specs.Reading.{read_result}
+use Rattle.switch_spec.specs.Status.{status_bytes, error_bytes, aborted_bytes, write_status, capabilities_bytes}
 
 -- a call as its lane brings it: 1 Write, 2 Read, 3 Set, 4 Get, 5 a stream message, 6 Capabilities, and the message
 pub record LaneCall : Type 0 where
@@ -28,25 +36,104 @@ pub record Answer : Type 0 where
 abbrev pub plain : Code → List (List ℕ) → Answer
 plain code messages = record { code = code; messages = messages; notices = []; events = []; packet = None }
 
--- a call that is not served has its Status, a stream message none
-abbrev pub unimplemented : ℕ → Answer
-unimplemented method = plain codes.Unimplemented (if method == 5 then [] else status_bytes codes.Unimplemented ∷ [])
+-- a call that fails for this code alone
+abbrev pub failed : Code → Answer
+failed code = plain code (status_bytes code ∷ [])
 
--- a Write's one update, which is made or has a cause to be refused
-abbrev pub written : ℕ → ℕ → BridgeInsert → Option Cause → Answer
-written lane k insert None = record (plain codes.Ok ([] ∷ [])) { events = Change lane k 0 (record { high = 0; low = 1 }) insert ∷ [] }
-written lane k insert (Some refused) = plain codes.Unknown (write_status refused ∷ [])
+-- what an atomicity asks for: 0 CONTINUE_ON_ERROR, 1 ROLLBACK_ON_ERROR, 2 DATAPLANE_ATOMIC
+abbrev pub is_atomicity : ℤ → Bool
+is_atomicity (pos n) = nat_le n 2
+is_atomicity (negsuc n) = false
 
--- without a plane there is no primary
-abbrev pub insert_answer : Option Plane → ℕ → ℕ → BridgeInsert → Answer
-insert_answer None lane k insert = plain codes.PermissionDenied (status_bytes codes.PermissionDenied ∷ [])
-insert_answer (Some plane) lane k insert = written lane k insert (cause plane insert)
+-- a list that takes effect whole or not at all
+abbrev pub is_atomic : ℤ → Bool
+is_atomic (pos n) = not (n == 0)
+is_atomic (negsuc n) = true
 
--- by what the call brings, if it is served
-abbrev pub answer_by : Option BridgeInsert → Control → ℕ → ℕ → ℕ → Answer
-answer_by None c lane k method = unimplemented method
-answer_by (Some insert) c lane k method = insert_answer c.plane lane k insert
+-- why a Write is refused whole
+abbrev pub write_refusal : Control → WriteRequest → Option Code
+write_refusal c request =
+    if not (request.device_id == c.device) then Some codes.NotFound else
+    if not (bears (primary c request.role_id) request.election_id) then Some codes.PermissionDenied else
+    if not (is_some c.plane) then Some codes.FailedPrecondition else
+    if not (is_atomicity request.atomicity) then Some codes.InvalidArgument else
+    if nat_lt 4096 (length request.updates) then Some codes.ResourceExhausted else None
+
+-- the state after an update: one that fails leaves it
+abbrev pub state_after : Control → Result Change Cause → Control
+state_after c (Ok change) = change_applied c change
+state_after c (Err cause) = c
+
+-- what each update of a list does in the state that the earlier ones left
+abbrev pub outcomes : Control → ℕ → List Update → List (Result Change Cause)
+outcomes c role [] = []
+outcomes c role (update ∷ updates) = outcome c role update ∷ outcomes (state_after c (outcome c role update)) role updates
+
+-- the Error of an update by itself: none where it succeeded
+abbrev pub own_error : Result Change Cause → List ℕ
+own_error (Ok change) = []
+own_error (Err cause) = error_bytes cause
+
+-- the Errors of a batch that fails: the first failing update has its cause, every other is aborted
+abbrev pub batch_errors : List (Result Change Cause) → List (List ℕ)
+batch_errors [] = []
+batch_errors (Ok change ∷ others) = aborted_bytes ∷ batch_errors others
+batch_errors (Err cause ∷ others) = error_bytes cause ∷ map (λ other. aborted_bytes) others
+
+-- the reply to a Write: OK, or UNKNOWN with the Errors
+abbrev pub write_reply : Bool → List (List ℕ) → Answer
+write_reply true errors = plain codes.Unknown (write_status errors ∷ [])
+write_reply false errors = plain codes.Ok ([] ∷ [])
+
+abbrev pub has_failed : List (Result Change Cause) → Bool
+has_failed list = list_any is_err list
+
+-- each update that succeeds is a step
+abbrev pub continued : Origin → List (Result Change Cause) → Answer
+continued by list = record (write_reply (has_failed list) (map own_error list)) { events = map (events.Change by) (filter_map result_ok list) }
+
+-- changes that are one step, or none where there is no change
+abbrev pub batch : Origin → List Change → List Event
+batch by [] = []
+batch by (change ∷ list) = events.Batch by (change ∷ list) ∷ []
+
+-- the whole list is one step, or none where an update fails
+abbrev pub all_or_nothing : Origin → List (Result Change Cause) → Answer
+all_or_nothing by list = record (write_reply (has_failed list) (batch_errors list)) { events = if has_failed list then [] else batch by (filter_map result_ok list) }
+
+abbrev pub origin : ℕ → ℕ → WriteRequest → Origin
+origin lane k request = record { caller = lane; call = k; role = request.role_id; election_id = request.election_id }
+
+abbrev pub written : ℤ → Origin → List (Result Change Cause) → Answer
+written atomicity by list = if is_atomic atomicity then all_or_nothing by list else continued by list
+
+abbrev pub write_unless : Option Code → Control → ℕ → ℕ → WriteRequest → Answer
+write_unless (Some code) c lane k request = failed code
+write_unless None c lane k request = written request.atomicity (origin lane k request) (outcomes c request.role_id request.updates)
+
+abbrev pub write_answer : Control → ℕ → ℕ → WriteRequest → Answer
+write_answer c lane k request = write_unless (write_refusal c request) c lane k request
+
+-- a Read's messages, or the code with which it is refused
+abbrev pub read_reply : Result (List (List ℕ)) Code → Answer
+read_reply (Ok messages) = plain codes.Ok messages
+read_reply (Err code) = failed code
+
+-- a message of the stream channel has no Status
+abbrev pub unreadable : ℕ → Answer
+unreadable method = plain codes.InvalidArgument (if method == 5 then [] else status_bytes codes.InvalidArgument ∷ [])
+
+-- by what is asked; pipelines and the stream channel are not served yet
+abbrev pub answer_to : Control → ℕ → ℕ → Call → Answer
+answer_to c lane k (calls.Write request) = write_answer c lane k request
+answer_to c lane k (calls.Read request) = read_reply (read_result c request)
+answer_to c lane k (calls.Set request) = failed codes.Unimplemented
+answer_to c lane k (calls.Get request) = failed codes.Unimplemented
+answer_to c lane k (calls.Stream message) = plain codes.Unimplemented []
+answer_to c lane k calls.Capabilities = plain codes.Ok (capabilities_bytes ∷ [])
+answer_to c lane k (calls.Unreadable method) = unreadable method
+answer_to c lane k calls.Leave = plain codes.Unimplemented []
 
 -- the answer to the k-th call of a lane
 unfoldable pub answer : Control → ℕ → ℕ → LaneCall → Answer
-answer c lane k call = answer_by (insert_of call.method call.message) c lane k call.method
+answer c lane k call = answer_to c lane k (call_of call.method call.message)

@@ -1,14 +1,61 @@
--- The numbers of the built-in Ethernet bridge (this project's profile).
-use Rattle.std.specs.Prelude.{ℕ}
+-- The built-in Ethernet bridge (this project's profile).
+use Rattle.std.specs.Prelude.{ℕ, pos, false, List, [], ◌∷◌, codes, Option, None}
+use Rattle.p4_types.specs.declared.info.Action.{Action}
+use Rattle.p4_types.specs.declared.info.Info.{Info}
+use Rattle.p4_types.specs.declared.info.MatchKind.TheVariants.{Exact}
+use Rattle.p4_types.specs.declared.info.Param.{Param}
+use Rattle.p4_types.specs.declared.info.Scope.TheVariants.{TableAndDefault}
+use Rattle.p4_types.specs.declared.info.Table.{Table}
+use Rattle.p4_types.specs.declared.p4info.Preamble.{Preamble}
+use Rattle.p4_types.specs.declared.table.DefaultAction.{DefaultAction}
 
 -- its one table, which matches the destination address of a frame
 abbrev pub bridge_table : ℕ
 bridge_table = 0x02000001
 
--- how many entries the table may have
-abbrev pub bridge_size : ℕ
-bridge_size = 4
-
 -- the action that sends a frame to a port
 abbrev pub forward_action : ℕ
 forward_action = 0x01000001
+
+-- the action that drops a frame
+abbrev pub drop_action : ℕ
+drop_action = 0x01000002
+
+-- an object of this id and name
+abbrev pub named : ℕ → List ℕ → Preamble
+named id name = record { id = id; name = name; alias = []; annotations = [] }
+
+abbrev pub forward_info : Action
+forward_info = record { preamble = named forward_action (codes "forward"); params = (record { id = 1; name = codes "port"; bitwidth = 9 }) ∷ [] }
+
+abbrev pub drop_info : Action
+drop_info = record { preamble = named drop_action (codes "drop"); params = [] }
+
+abbrev pub bridge_table_info : Table
+bridge_table_info = record {
+  preamble = named bridge_table (codes "bridge");
+  match_fields = (record { id = 1; name = codes "eth.dst"; bitwidth = 48; kind = Exact }) ∷ [];
+  action_refs = (record { id = forward_action; scope = TableAndDefault }) ∷ (record { id = drop_action; scope = TableAndDefault }) ∷ [];
+  const_default_action = None;
+  action_profile = None;
+  direct_counters = [];
+  size = 4;
+  idle_timeout_behavior = pos 0;
+  is_const_table = false;
+}
+
+-- the bridge's objects
+unfoldable pub bridge_info : Info
+bridge_info = record {
+  tables = bridge_table_info ∷ [];
+  actions = forward_info ∷ drop_info ∷ [];
+  action_profiles = [];
+  counters = [];
+  direct_counters = [];
+  controller_packet_metadata = [];
+  digests = [];
+}
+
+-- a frame to an address that is not in the table is dropped
+abbrev pub bridge_defaults : List DefaultAction
+bridge_defaults = (record { table = bridge_table; action = record { action = drop_action; arguments = [] } }) ∷ []

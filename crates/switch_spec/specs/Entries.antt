@@ -89,6 +89,10 @@ table_size table = if table.size == 0 then 1024 else table.size
 abbrev pub is_counted : Table → Bool
 is_counted table = not (length table.direct_counters == 0)
 
+-- how many slots an INSERT into the table draws
+abbrev pub slots_drawn : Table → ℕ
+slots_drawn table = if is_counted table then 1 else 0
+
 -- how many slots of counters the switch has
 abbrev pub slot_limit : ℕ
 slot_limit = 1048576
@@ -119,11 +123,12 @@ absence_cause name entries = if is_some (entry_named name entries) then None els
 -- the entry that an INSERT makes
 abbrev pub new_entry : Table → Room → EntryChange → Entry
 new_entry table room change = record {
-    name = change.name;
-    seq = next_number room;
-    controller_metadata = change.controller_metadata;
-    action = change.action;
-    slot = if is_counted table then Some (next_slot room) else None }
+  name = change.name;
+  seq = next_number room;
+  controller_metadata = change.controller_metadata;
+  action = change.action;
+  slot = if is_counted table then Some (next_slot room) else None;
+}
 
 -- Entries stand by rising table id, those of one table by rising sequence number: a new one stands behind those of its table.
 unfoldable pub inserted : Entry → List Entry → List Entry

@@ -1,9 +1,7 @@
 pub mod Answer
 pub mod Bridge
-pub mod Bytes
 pub mod Control
 pub mod History
-pub mod Insert
 pub mod Meaning
 pub mod Play
 pub mod Report
@@ -15,5 +13,6 @@ pub mod TapeLaws
 pub mod TapeReading
 pub mod Text
 pub mod Objects
+pub mod Reading
 pub mod Entries
 pub mod UpdateRules

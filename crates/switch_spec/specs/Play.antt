@@ -1,5 +1,5 @@
 -- A run in one pass over the tape.
-use Rattle.std.specs.Prelude.{ℕ, ◌+◌, ◌==◌, List, [], ◌∷◌, ◌++◌, count_by, fold}
+use Rattle.std.specs.Prelude.{ℕ, ◌+◌, ◌==◌, List, [], ◌∷◌, ◌++◌, count_by, fold, map}
 use Rattle.p4_types.specs.declared.events.Start.{Start}
 use Rattle.p4_types.specs.declared.journal.Entry.{Entry}
 use Rattle.p4_types.specs.declared.journal.Report.{Report}
@@ -9,7 +9,7 @@ use Rattle.p4_types.specs.declared.tape.TapeRecord.TheVariants.{Call, Packet}
 use Rattle.p4_types.specs.declared.tape.Who.TheVariants.{Worker}
 use Rattle.switch_spec.specs.Answer.{LaneCall, answer}
 use Rattle.switch_spec.specs.Control.{Control, opened, applied}
-use Rattle.switch_spec.specs.History.{answered}
+use Rattle.switch_spec.specs.History.{answered, refused_for_memory}
 use Rattle.switch_spec.specs.Meaning.{meaning, record_of}
 use Rattle.switch_spec.specs.Report.{IsLockstepReport}
 use Rattle.switch_spec.specs.ReportText.{is_who, report_text}
@@ -46,13 +46,39 @@ abbrev pub play_packet : Played → ℕ → ℕ → List ℕ → Played
 play_packet p lane port packet =
     record p { records = p.records ++ record_of (Worker lane) (next_packet lane p) p.steps (meaning p.control port packet) ∷ [] }
 
-unfoldable pub play : Played → TapeRecord → Played
-play p (Call lane method message) = play_call p lane (record { method = method; message = message })
-play p (Packet lane port packet) = play_packet p lane port packet
+-- a call for which there is no memory leaves the state
+abbrev pub play_refusal : Played → ℕ → Played
+play_refusal p lane = record p { journal = p.journal ++ refused_for_memory p.steps lane (next_call lane p) ∷ [] }
 
--- the run of a tape
-abbrev pub played : Start → List TapeRecord → Played
-played start tape = fold play (begun start) tape
+-- what becomes of a record of the tape: a call is answered, or there is no memory for it, or a packet is carried
+pub data Turn : Type 0 where
+  Answers : (lane method : ℕ) (message : List ℕ) → Turn
+  Refuses : (lane method : ℕ) (message : List ℕ) → Turn
+  Carries : (lane port : ℕ) (packet : List ℕ) → Turn
+
+-- the record
+abbrev pub item_of : Turn → TapeRecord
+item_of (Answers lane method message) = Call lane method message
+item_of (Refuses lane method message) = Call lane method message
+item_of (Carries lane port packet) = Packet lane port packet
+
+-- the tape of the turns
+abbrev pub items_of : List Turn → List TapeRecord
+items_of turns = map item_of turns
+
+unfoldable pub play : Played → Turn → Played
+play p (Answers lane method message) = play_call p lane (record { method = method; message = message })
+play p (Refuses lane method message) = play_refusal p lane
+play p (Carries lane port packet) = play_packet p lane port packet
+
+-- the run of these turns
+abbrev pub played : Start → List Turn → Played
+played start turns = fold play (begun start) turns
+
+-- the turn of a record whose call is answered
+abbrev pub answering : TapeRecord → Turn
+answering (Call lane method message) = Answers lane method message
+answering (Packet lane port packet) = Carries lane port packet
 
 -- what the report shows of it
 abbrev pub played_report : Played → Report
@@ -60,4 +86,4 @@ played_report p = record { journal = p.journal; sent = []; records = p.records; 
 
 -- The run in one pass gives the report that follows the tape.
 abbrev pub PlayedIsReport : Type 0
-PlayedIsReport = (start : Start) (tape : List TapeRecord) → IsLockstepReport start tape (report_text (played_report (played start tape)))
+PlayedIsReport = (start : Start) (turns : List Turn) → IsLockstepReport start (items_of turns) (report_text (played_report (played start turns)))

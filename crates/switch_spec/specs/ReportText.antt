@@ -17,6 +17,9 @@ use Rattle.p4_types.specs.declared.records.HitMark.TheVariants as marks
 use Rattle.p4_types.specs.declared.records.Record.{Record}
 use Rattle.p4_types.specs.declared.tape.Who.{Who}
 use Rattle.p4_types.specs.declared.tape.Who.TheVariants as who
+use Rattle.p4v1_wire.specs.Rows.{fields_by}
+use Rattle.p4v1_wire.specs.StreamRows.{stream_rows}
+use Rattle.wire_fields.specs.Spelling.{spelling}
 use Rattle.switch_spec.specs.Text.{hex_word, pair_word, list_word, option_word, line, count_up}
 
 abbrev pub kind_word : StepKind → List ℕ
@@ -36,9 +39,9 @@ abbrev pub step_lines : ℕ → ℕ → ℕ → List Step → List ℕ
 step_lines i lane call [] = []
 step_lines i lane call (step ∷ steps) = step_line (i + 1) lane call step ++ step_lines (i + 1) lane call steps
 
--- the bytes of a message to a controller: there is none yet
+-- the bytes of a message to a controller
 abbrev pub response_bytes : StreamMessageResponse → List ℕ
-response_bytes message = elim message [ ]
+response_bytes message = spelling (fields_by stream_rows message)
 
 abbrev pub notice_line : Notice → List ℕ
 notice_line notice = line (codes "notice" ∷ decimal notice.lane ∷ hex_word (response_bytes notice.message) ∷ [])

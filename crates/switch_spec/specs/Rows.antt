@@ -4,7 +4,8 @@ use Rattle.hex.specs.Hex.{encode_lower}
 use Rattle.p4_types.specs.declared.events.Start.{Start}
 use Rattle.p4_types.specs.declared.tape.TapeRecord.{TapeRecord}
 use Rattle.p4_types.specs.declared.tape.TapeRecord.TheVariants.{Call, Packet}
-use Rattle.switch_spec.specs.Insert.{insert_bytes}
+use Rattle.wire_fields.specs.Spelling.{spelling, number_field, bytes_field}
+use Rattle.switch_spec.specs.Bridge.{bridge_table, forward_action}
 use Rattle.switch_spec.specs.Report.{IsLockstepReport}
 use Rattle.switch_spec.specs.Tape.{tape_bytes}
 
@@ -17,9 +18,30 @@ pub record IsWorked (tape : List TapeRecord) (spelled text : List ℕ) : Type 0 
   pub bytes : encode_lower (tape_bytes tape) ≡ spelled
   pub report : IsLockstepReport bridge_start tape text
 
+-- an exact match of field 1 (FieldMatch)
+abbrev pub match_bytes : ℕ → List ℕ
+match_bytes address = spelling (number_field 1 1 ∷ bytes_field 2 (spelling (bytes_field 1 (address ∷ []) ∷ [])) ∷ [])
+
+-- the action that sends to port 2 (TableAction, Action, Param)
+abbrev pub action_bytes : List ℕ
+action_bytes = spelling (bytes_field 1 (spelling (number_field 1 forward_action
+    ∷ bytes_field 4 (spelling (number_field 2 1 ∷ bytes_field 3 (2 ∷ []) ∷ [])) ∷ [])) ∷ [])
+
+-- the entry (TableEntry)
+abbrev pub entry_bytes : ℕ → List ℕ
+entry_bytes address = spelling (number_field 1 bridge_table ∷ bytes_field 2 (match_bytes address) ∷ bytes_field 3 action_bytes ∷ [])
+
+-- an update of type INSERT (Update, Entity)
+abbrev pub update_bytes : ℕ → List ℕ
+update_bytes address = spelling (number_field 1 1 ∷ bytes_field 2 (spelling (bytes_field 2 (entry_bytes address) ∷ [])) ∷ [])
+
+-- a WriteRequest by device 1 and election id 1 with this one update
+abbrev pub insert_bytes : ℕ → List ℕ
+insert_bytes address = spelling (number_field 1 1 ∷ bytes_field 3 (spelling (number_field 2 1 ∷ [])) ∷ bytes_field 4 (update_bytes address) ∷ [])
+
 -- controller 0 inserts the address of this one byte, to port 2
 abbrev pub inserting : ℕ → TapeRecord
-inserting address = Call 0 1 (insert_bytes (record { address = address ∷ []; port = 2 }))
+inserting address = Call 0 1 (insert_bytes address)
 
 -- a frame of 14 bytes from address 1 to the address of this last byte
 abbrev pub frame_to : ℕ → List ℕ

@@ -293,9 +293,10 @@ asked_of id (asked ∷ others) = if asked.field_id == id then asked.kind else as
 -- the name of an entry: a test for each field of the key
 abbrev pub name_of : Table → TableEntry → EntryName
 name_of table entry = record {
-    table = entry.table_id;
-    tests = map (λ field. test_by field.bitwidth (asked_of field.id entry.matches)) table.match_fields;
-    priority = entry.priority }
+  table = entry.table_id;
+  tests = map (λ field. test_by field.bitwidth (asked_of field.id entry.matches)) table.match_fields;
+  priority = entry.priority;
+}
 
 -- an action with its arguments in the order of the parameters
 abbrev pub action_call : Option infos.Action → Action → ActionCall

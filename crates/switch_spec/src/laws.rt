@@ -1,13 +1,7 @@
 //! Laws about the definitions. Each function's contract is the law; its body does nothing.
-ghost use Rattle.switch_spec.specs.Insert.{InsertIsSpelled};
 ghost use Rattle.switch_spec.specs.Play.{PlayedIsReport};
 ghost use Rattle.switch_spec.specs.Report.{TapeDeterminesReport};
 ghost use Rattle.switch_spec.specs.Rows.{EmptyTape, OneEntryOnePacket, InsertTwice, TableFull, ShortPacket};
-
-/// The one Write that is served is read of just the bytes that spell it.
-pub fn insert_is_spelled()
-    ensures law { InsertIsSpelled }
-{}
 
 /// One pass over a tape gives a report of it, the one that follows the tape.
 pub fn played_is_report()

@@ -1,0 +1,185 @@
+-- What a Read selects, and how it is answered (P4Runtime 1.3.0, "Read RPC"; order and size of the messages: this project's profile).
+use Rattle.std.specs.Prelude.{ℕ, zero, suc, ℤ, pos, ◌==◌, ◌&&◌, ◌||◌, not, nat_lt, nat_le, Bool, true, false, if◌then◌else◌, List, [], ◌∷◌, map, filter, find, fold, take, drop, length, Option, Some, None, option_map, is_some, Result, Ok, Err}
+use Rattle.std.specs.List.{filter_map, flat_map, zip}
+use Rattle.std.specs.Ordering.{int_eq}
+use Rattle.p4_types.specs.declared.code.Code.{Code}
+use Rattle.p4_types.specs.declared.code.Code.TheVariants as codes
+use Rattle.p4_types.specs.declared.info.Action as infos
+use Rattle.p4_types.specs.declared.info.Info.{Info}
+use Rattle.p4_types.specs.declared.info.MatchField.{MatchField}
+use Rattle.p4_types.specs.declared.info.Table.{Table}
+use Rattle.p4_types.specs.declared.messages.Action.{Action}
+use Rattle.p4_types.specs.declared.messages.Entity.{Entity}
+use Rattle.p4_types.specs.declared.messages.Entity.TheVariants as entities
+use Rattle.p4_types.specs.declared.messages.FieldMatch.{FieldMatch}
+use Rattle.p4_types.specs.declared.messages.FieldMatchKind.{FieldMatchKind}
+use Rattle.p4_types.specs.declared.messages.FieldMatchKind.TheVariants as given
+use Rattle.p4_types.specs.declared.messages.Param.{Param}
+use Rattle.p4_types.specs.declared.messages.ReadRequest.{ReadRequest}
+use Rattle.p4_types.specs.declared.messages.TableAction.TheVariants as actions
+use Rattle.p4_types.specs.declared.messages.TableEntry.{TableEntry}
+use Rattle.p4_types.specs.declared.table.ActionCall.{ActionCall}
+use Rattle.p4_types.specs.declared.table.DefaultAction.{DefaultAction}
+use Rattle.p4_types.specs.declared.table.Entry.{Entry}
+use Rattle.p4_types.specs.declared.table.FieldTest.{FieldTest}
+use Rattle.p4_types.specs.declared.table.FieldTest.TheVariants as tests
+use Rattle.canon_bytes.specs.ByteString.{canon}
+use Rattle.p4v1_wire.specs.ResponseRows.{read_response_rows}
+use Rattle.p4v1_wire.specs.Rows.{fields_by}
+use Rattle.wire_fields.specs.Spelling.{spelling}
+use Rattle.switch_spec.specs.Control.{Control, Plane, default_of}
+use Rattle.switch_spec.specs.Entries.{same_name}
+use Rattle.switch_spec.specs.Objects.{table_of, action_of}
+use Rattle.switch_spec.specs.UpdateRules.{is_zero, is_optional, has_match, is_malformed_match, is_too_wide, is_canonical_match, name_of}
+
+-- a match breaks U6, U7 or U8 in its own part
+abbrev pub match_refusal : Table → TableEntry → Option Code
+match_refusal table asked =
+    if not (has_match asked) then None else
+    if is_malformed_match table asked then Some codes.InvalidArgument else
+    if is_too_wide table asked then Some codes.OutOfRange else
+    if is_canonical_match table asked then None else Some codes.InvalidArgument
+
+abbrev pub entry_refusal_in : Option Table → TableEntry → Option Code
+entry_refusal_in None asked = Some codes.NotFound
+entry_refusal_in (Some table) asked = match_refusal table asked
+
+-- the id 0 asks for all tables, and then for no match
+abbrev pub entry_refusal : Info → TableEntry → Option Code
+entry_refusal info asked =
+    if asked.table_id == 0 then (if has_match asked then Some codes.InvalidArgument else None)
+    else entry_refusal_in (table_of asked.table_id info) asked
+
+-- why an entity that is asked for is refused; other kinds than table entries are not served yet
+abbrev pub entity_refusal : Info → Option Entity → Option Code
+entity_refusal info (Some (entities.TableEntry asked)) = entry_refusal info asked
+entity_refusal info _ = Some codes.Unimplemented
+
+-- the first that there is
+abbrev pub first_of : List (Option Code) → Option Code
+first_of [] = None
+first_of (Some code ∷ others) = Some code
+first_of (None ∷ others) = first_of others
+
+-- an item behind those whose number is not above its own
+abbrev pub placed : {A : Type 0} → (A → ℕ) → A → List A → List A
+placed key x [] = x ∷ []
+placed key x (y ∷ ys) = if nat_lt (key x) (key y) then x ∷ y ∷ ys else y ∷ placed key x ys
+
+-- the items by rising number
+abbrev pub by_rising : {A : Type 0} → (A → ℕ) → List A → List A
+by_rising key items = fold (λ sorted x. placed key x sorted) [] items
+
+-- a test as it is answered, in canonical form; a field that is left out is not
+abbrev pub shown_kind : MatchField → FieldTest → Option FieldMatchKind
+shown_kind field tests.Any = None
+shown_kind field (tests.Equal value) = Some (if is_optional field.kind then given.Optional (canon value) else given.Exact (canon value))
+shown_kind field (tests.Prefix value length width) = Some (given.Lpm (canon value) (pos length))
+shown_kind field (tests.Masked value mask) = Some (given.Ternary (canon value) (canon mask))
+shown_kind field (tests.Between low high) = Some (given.Range (canon low) (canon high))
+
+abbrev pub field_match : ℕ → FieldMatchKind → FieldMatch
+field_match id kind = record { field_id = id; kind = Some kind }
+
+abbrev pub shown_match : MatchField × FieldTest → Option FieldMatch
+shown_match x = option_map (field_match x.0.id) (shown_kind x.0 x.1)
+
+abbrev pub matches_in : Option Table → List FieldTest → List FieldMatch
+matches_in None list = []
+matches_in (Some table) list = by_rising (λ m. m.field_id) (filter_map shown_match (zip table.match_fields list))
+
+abbrev pub param_of : ℕ → ℕ → Param
+param_of id value = record { param_id = id; value = canon value }
+
+abbrev pub params_in : Option infos.Action → List ℕ → List Param
+params_in None arguments = []
+params_in (Some action) arguments = by_rising (λ p. p.param_id) (map (λ x. param_of x.0.id x.1) (zip action.params arguments))
+
+-- an action as it is answered: its parameters by rising id
+abbrev pub shown_action : Info → ActionCall → Action
+shown_action info call = record { action_id = call.action; params = params_in (action_of call.action info) call.arguments }
+
+-- an entry of this table, match, priority and action, and nothing else
+abbrev pub plain_entry : ℕ → List FieldMatch → ℤ → Action → TableEntry
+plain_entry table matches priority action = record {
+  table_id = table;
+  matches = matches;
+  action = Some (Some (actions.Action action));
+  priority = priority;
+  controller_metadata = 0;
+  meter_config = false;
+  counter_data = None;
+  is_default_action = false;
+  idle_timeout_ns = pos 0;
+  time_since_last_hit = false;
+}
+
+-- an entry as it is answered: its fields by rising id
+abbrev pub shown_entry : Info → Entry → TableEntry
+shown_entry info entry =
+    record (plain_entry entry.name.table (matches_in (table_of entry.name.table info) entry.name.tests) entry.name.priority (shown_action info entry.action)) {
+      controller_metadata = entry.controller_metadata;
+    }
+
+-- a table's default action as it is answered
+abbrev pub shown_default : Info → DefaultAction → TableEntry
+shown_default info default = record (plain_entry default.table [] (pos 0) (shown_action info default.action)) { is_default_action = true }
+
+abbrev pub is_asked : TableEntry → ℕ → Bool
+is_asked asked table = (asked.table_id == 0) || (table == asked.table_id)
+
+-- by its match and priority where a match is given, else by the priority if that is not 0
+abbrev pub selects_in : Option Table → TableEntry → Entry → Bool
+selects_in None asked entry = is_zero asked.priority || int_eq entry.name.priority asked.priority
+selects_in (Some table) asked entry =
+    if has_match asked then same_name (name_of table asked) entry.name else is_zero asked.priority || int_eq entry.name.priority asked.priority
+
+abbrev pub selects : Option Table → TableEntry → Entry → Bool
+selects table asked entry = is_asked asked entry.name.table && selects_in table asked entry
+
+-- the tables by rising id
+abbrev pub table_ids : Info → List ℕ
+table_ids info = by_rising (λ id. id) (map (λ table. table.preamble.id) info.tables)
+
+-- default entries have no priority
+abbrev pub selected_defaults : Plane → TableEntry → List TableEntry
+selected_defaults plane asked =
+    if is_zero asked.priority then map (shown_default plane.info) (filter_map (default_of plane.changed plane.program) (filter (is_asked asked) (table_ids plane.info))) else []
+
+-- what is answered for a table entry that is asked for
+abbrev pub selected_entries : Plane → TableEntry → List TableEntry
+selected_entries plane asked =
+    if asked.is_default_action then selected_defaults plane asked
+    else map (shown_entry plane.info) (filter (selects (table_of asked.table_id plane.info) asked) plane.entries)
+
+abbrev pub selected : Plane → Option Entity → List Entity
+selected plane (Some (entities.TableEntry asked)) = map entities.TableEntry (selected_entries plane asked)
+selected plane _ = []
+
+-- Messages of at most 1,024 entities, all but the last full. No entities are one message.
+abbrev pub chunks_in : ℕ → List Entity → List (List Entity)
+chunks_in zero list = list ∷ []
+chunks_in (suc steps) list = if nat_le (length list) 1024 then list ∷ [] else take 1024 list ∷ chunks_in steps (drop 1024 list)
+
+unfoldable pub chunks : List Entity → List (List Entity)
+chunks list = chunks_in (length list) list
+
+-- the bytes of a ReadResponse
+abbrev pub response_bytes : List Entity → List ℕ
+response_bytes list = spelling (fields_by read_response_rows (record { entities = list }))
+
+-- the messages that answer a Read of these entities
+abbrev pub read_messages : Plane → List (Option Entity) → List (List ℕ)
+read_messages plane list = map response_bytes (chunks (flat_map (selected plane) list))
+
+abbrev pub read_unless : Option Code → Plane → List (Option Entity) → Result (List (List ℕ)) Code
+read_unless (Some code) plane list = Err code
+read_unless None plane list = Ok (read_messages plane list)
+
+abbrev pub read_in : Option Plane → ReadRequest → Result (List (List ℕ)) Code
+read_in None request = Err codes.FailedPrecondition
+read_in (Some plane) request = read_unless (first_of (map (entity_refusal plane.info) request.entities)) plane request.entities
+
+-- the messages that answer a Read, or the code of the first entity asked for that is refused
+unfoldable pub read_result : Control → ReadRequest → Result (List (List ℕ)) Code
+read_result c request = if request.device_id == c.device then read_in c.plane request else Err codes.NotFound
