@@ -1,5 +1,5 @@
 -- No bytes spell the number 0.
-use Rattle.std.proofs.Common.{◌≡◌, ℕ, List, [], ◌^◌, nat_lt, Bool, true, false, cond, refl, ap, ◌∙◌, sym}
+use Rattle.std.proofs.Common.{◌≡◌, ℕ, List, [], Bool, true, false, cond, refl, ap, ◌∙◌, sym}
 use Rattle.canon_bytes.proofs.Numbers.{num_none}
 use Rattle.switch_spec.specs.UpdateRules.{number, number_in}
 

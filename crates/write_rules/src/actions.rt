@@ -4,7 +4,8 @@ ghost use Rattle.std.specs.Option.{option_map};
 ghost use Rattle.std.specs.List.{list_any, list_all};
 ghost use Rattle.p4_types.specs.declared.info.Param as info_params;
 ghost use Rattle.switch_spec.specs.UpdateRules.{repeats, is_empty, is_allowed, has_action, are_complete, argument_of, arguments_fit, argument_flaw, number_in};
-ghost use Rattle.write_rules.specs.Widths.{IsWidth, HasParamWidths};
+ghost use Rattle.p4info_model.specs.Valid.{IsWidth};
+ghost use Rattle.write_rules.specs.Widths.{HasParamWidths};
 
 use crate::numbers;
 use p4_types::code::{Code, NoMemory};

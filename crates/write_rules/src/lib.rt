@@ -5,3 +5,8 @@ mod actions;
 mod matches;
 mod numbers;
 mod rules;
+mod updates;
+
+pub use numbers::number;
+pub use rules::{is_canonical_match, is_malformed_match, is_too_wide};
+pub use updates::{ResolveError, name_of, resolve};

@@ -17,8 +17,8 @@ pub(crate) fn fits(bytes: &[u8], width: u32) -> bool
     }
 }
 
-/// The number of the bytes, or 0 where it has more than `width` bits.
-pub(crate) fn number(bytes: &[u8], width: u32) -> u128
+/// The number of big-endian bytes, or 0 where it has more than `width` bits, 1 to 128.
+pub fn number(bytes: &[u8], width: u32) -> u128
     requires not_zero { 1 ≤ width }
     requires in_range { width ≤ 128 }
     ensures { result ≡ number_in width bytes.now }

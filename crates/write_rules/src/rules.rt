@@ -2,7 +2,7 @@
 ghost use Rattle.std.specs.Prelude.{◌≡◌, ◌==◌, ◌&&◌, ◌||◌, not, Some, None};
 ghost use Rattle.std.specs.Option.{option_map};
 ghost use Rattle.std.specs.List.{list_any};
-ghost use Rattle.switch_spec.specs.UpdateRules.{update_kind, brings, is_unserved, is_foreign, is_fixed, is_malformed, is_malformed_match, names_zero, is_too_wide, has_priorities, has_right_priority, is_inconsistent};
+ghost use Rattle.switch_spec.specs.UpdateRules.{update_kind, brings, is_unserved, is_foreign, is_fixed, is_malformed, is_malformed_match, names_zero, is_too_wide, has_priorities, has_right_priority, is_canonical_match, is_inconsistent};
 ghost use Rattle.write_rules.specs.Widths.{HasWidths};
 
 use crate::matches;
@@ -87,7 +87,7 @@ fn names_zero(action: &Option<Option<TableAction>>) -> bool
 }
 
 /// Whether the match is not in the form of the table's key.
-pub(crate) fn is_malformed_match(table: &Table, entry: &TableEntry) -> bool
+pub fn is_malformed_match(table: &Table, entry: &TableEntry) -> bool
     ensures { result ≡ is_malformed_match table.now entry.now }
 {
     let asked = entry.matches.as_slice();
@@ -105,8 +105,8 @@ pub(crate) fn is_malformed(table: &Table, entry: &TableEntry) -> bool
     is_malformed_match(table, entry) || names_zero(&entry.action)
 }
 
-/// U7: a value, mask, low or high is wider than its field.
-pub(crate) fn is_too_wide(table: &Table, entry: &TableEntry) -> bool
+/// Whether a value, mask, low or high of the match is wider than its field, which breaks U7.
+pub fn is_too_wide(table: &Table, entry: &TableEntry) -> bool
     requires { HasWidths table.now }
     ensures { result ≡ is_too_wide table.now entry.now }
 {
@@ -135,10 +135,19 @@ fn has_right_priority(table: &Table, entry: &TableEntry) -> bool
     }
 }
 
+/// Whether the match is the canonical one of what it asks: no value bits outside the mask or the prefix, a range
+/// that is one and not of all values.
+pub fn is_canonical_match(table: &Table, entry: &TableEntry) -> bool
+    requires { HasWidths table.now }
+    ensures { result ≡ is_canonical_match table.now entry.now }
+{
+    matches::all_canonical(table, entry.matches.as_slice())
+}
+
 /// U8: a match that is not the canonical one, or a priority that the table does not allow.
 pub(crate) fn is_inconsistent(table: &Table, entry: &TableEntry) -> bool
     requires { HasWidths table.now }
     ensures { result ≡ is_inconsistent table.now entry.now }
 {
-    !matches::all_canonical(table, entry.matches.as_slice()) || !has_right_priority(table, entry)
+    !is_canonical_match(table, entry) || !has_right_priority(table, entry)
 }

@@ -1,5 +1,4 @@
-use Rattle.std.proofs.Common.{◌≡◌, ◌==◌, ◌&&◌, drop, map}
-use Rattle.std.specs.List.{list_any, list_all}
+use Rattle.std.proofs.Common.{◌≡◌, drop}
 use Rattle.switch_spec.specs.UpdateRules.{argument_of}
 use Rattle.write_rules.proofs.actions.argument_of.Given as goal
 

@@ -1,5 +1,4 @@
-use Rattle.std.proofs.Common.{◌≡◌, ◌==◌, ◌&&◌, drop, map}
-use Rattle.std.specs.List.{list_any, list_all}
+use Rattle.std.proofs.Common.{◌≡◌, drop}
 use Rattle.switch_spec.specs.UpdateRules.{arguments_fit}
 use Rattle.write_rules.proofs.actions.arguments_fit.Given as goal
 

@@ -1,5 +1,5 @@
-use Rattle.std.proofs.Common.{◌≡◌, ◌==◌, ◌&&◌, drop, map}
-use Rattle.std.specs.List.{list_any, list_all}
+use Rattle.std.proofs.Common.{◌≡◌, ◌==◌, drop, map}
+use Rattle.std.specs.List.{list_any}
 use Rattle.write_rules.proofs.actions.gives.Given as goal
 
 abbrev pub invariant-loop-argument : goal.invariant-loop-argument

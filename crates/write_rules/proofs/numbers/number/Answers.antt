@@ -1,5 +1,4 @@
-use Rattle.std.proofs.Common.{◌≡◌, Result, Err, ap, ◌∙◌}
-use Rattle.canon_bytes.specs.declared.reading.ByteFault.TheVariants as faults
+use Rattle.std.proofs.Common.{Err, ap}
 use Rattle.write_rules.proofs.EmptyNumber.{number_in_none}
 use Rattle.write_rules.proofs.numbers.number.Goals as goal
 

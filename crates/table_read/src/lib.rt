@@ -1,0 +1,13 @@
+//! What a Read of table entries selects, and how it is answered.
+#![tactic(auto)]
+
+mod defaults;
+mod messages;
+mod order;
+mod plane;
+mod reading;
+mod refusals;
+mod selecting;
+mod showing;
+
+pub use reading::read;

@@ -1,0 +1,67 @@
+//! Why a Read is refused.
+ghost use Rattle.std.specs.Prelude.{◌≡◌, map};
+ghost use Rattle.switch_spec.specs.Reading.{match_refusal, entry_refusal, entity_refusal, first_of};
+ghost use Rattle.write_rules.specs.Widths.{HasWidths};
+
+use p4_types::code::Code;
+use p4_types::info::Table;
+use p4_types::messages::{Entity, TableEntry};
+use p4info_model::P4Info;
+use write_rules::{is_canonical_match, is_malformed_match, is_too_wide};
+
+fn match_refusal(table: &Table, asked: &TableEntry) -> Option<Code>
+    requires { HasWidths table.now }
+    ensures { result ≡ match_refusal table.now asked.now }
+{
+    if asked.matches.is_empty() {
+        return None;
+    }
+    if is_malformed_match(table, asked) {
+        return Some(Code::InvalidArgument);
+    }
+    if is_too_wide(table, asked) {
+        return Some(Code::OutOfRange);
+    }
+    if is_canonical_match(table, asked) {
+        None
+    } else {
+        Some(Code::InvalidArgument)
+    }
+}
+
+fn entry_refusal(info: &P4Info, asked: &TableEntry) -> Option<Code>
+    ensures { result ≡ entry_refusal info.now asked.now }
+{
+    if asked.table_id == 0 {
+        return if asked.matches.is_empty() {
+            None
+        } else {
+            Some(Code::InvalidArgument)
+        };
+    }
+    match info.table(asked.table_id) {
+        Some(table) => match_refusal(table, asked),
+        None => Some(Code::NotFound),
+    }
+}
+
+fn entity_refusal(info: &P4Info, entity: &Option<Entity>) -> Option<Code>
+    ensures { result ≡ entity_refusal info.now entity.now }
+{
+    match entity {
+        Some(Entity::TableEntry(asked)) => entry_refusal(info, asked),
+        _ => Some(Code::Unimplemented),
+    }
+}
+
+/// The code of the first entity asked for that is refused.
+pub(crate) fn refusal(info: &P4Info, entities: &[Option<Entity>]) -> Option<Code>
+    ensures { result ≡ first_of (map (entity_refusal info.now) entities.now) }
+{
+    for entity in entities {
+        if let Some(code) = entity_refusal(info, entity) {
+            return Some(code);
+        }
+    }
+    None
+}

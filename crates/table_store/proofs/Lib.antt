@@ -1,0 +1,12 @@
+pub mod Alike
+pub mod Bests
+pub mod Bits
+pub mod ByTable
+pub mod LawProofs
+pub mod Lists
+pub mod Names
+pub mod OfTable
+pub mod OneTable
+pub mod Orders
+pub mod Places
+pub mod Ranks

@@ -1,0 +1,5 @@
+pub mod Answers
+pub mod Groups
+pub mod Laws
+pub mod Order
+pub mod Scan
