@@ -48,10 +48,10 @@ pub complete : (status : Status) (words : List (List ℕ)) (old new : Streams) �
     → (Rose old.read_faults new.read_faults → ⊥) → (Rose old.write_faults new.write_faults → ⊥) → (status_number status ≡ 0) ⊎ (status_number status ≡ 3)
 complete statuses.Done words old new ends command holds reads writes = inl refl
 complete (statuses.NotATape place) words old new ends command holds reads writes =
-    let read = ends.1.«because».1 in absurd (not_refused old.left new.left _ _ (faults.Bad place) holds reads read.taken read.from.consumed read.answers)
+    let read = ends.answers.«because».1 in absurd (not_refused old.left new.left _ _ (faults.Bad place) holds reads read.taken read.from.consumed read.answers)
 complete statuses.WordsRefused words old new ends command holds reads writes = absurd (ends.0 command)
 complete statuses.NoMemory words old new ends command holds reads writes = inr refl
-complete statuses.ReadFault words old new ends command holds reads writes = absurd (reads ends.1.«because»)
-complete statuses.WriteFault words old new ends command holds reads writes = absurd (writes ends.1.fault)
+complete statuses.ReadFault words old new ends command holds reads writes = absurd (reads ends.answers.«because»)
+complete statuses.WriteFault words old new ends command holds reads writes = absurd (writes ends.answers.fault)
 complete statuses.TooLong words old new ends command holds reads writes =
-    let read = ends.1.«because».1 in absurd (not_refused old.left new.left _ _ faults.TooLong holds reads read.taken read.from.consumed read.answers)
+    let read = ends.answers.«because».1 in absurd (not_refused old.left new.left _ _ faults.TooLong holds reads read.taken read.from.consumed read.answers)

@@ -1,5 +1,4 @@
 pub mod Completeness
-pub mod InsertLemmas
 pub mod ReplayLemmas
 pub mod SessionBounds
 pub mod SessionLemmas

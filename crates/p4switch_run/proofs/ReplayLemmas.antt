@@ -1,16 +1,27 @@
 -- What a replay that wrote its report says.
-use Rattle.std.proofs.Common.{◌≡◌, ℕ, List, Option, sym, subst}
+use Rattle.std.proofs.Common.{◌≡◌, ℕ, List, Option, ap, ◌∙◌, sym, subst}
+use Rattle.p4_types.specs.declared.events.Start.{Start}
 use Rattle.p4_types.specs.declared.tape.TapeRecord.{TapeRecord}
-use Rattle.switch_spec.specs.Play.{played, played_report}
+use Rattle.switch_spec.specs.Play.{Turn, items_of, played, played_report}
 use Rattle.switch_spec.specs.Report.{IsLockstepReport}
 use Rattle.switch_spec.specs.ReportText.{report_text}
-use Rattle.switch_spec.specs.Rows.{bridge_start}
 use Rattle.switch_spec.proofs.Fitting.{played_is_report}
 use Rattle.tape_form.specs.TapeRead.{IsWholeTape}
-use Rattle.p4switch_run.specs.Replay.{IsReplayed}
+use Rattle.p4switch_run.specs.Replay.{IsReplayed, IsTextOf}
 
--- the text of the run in one pass is the report of the tape
-pub replayed : (old new : Option (List ℕ)) (records : List TapeRecord) (text : List ℕ) → IsWholeTape old new records
-    → text ≡ report_text (played_report (played bridge_start records)) → IsReplayed old new text
-replayed old new records text whole is =
-    record { records = records; whole = whole; report = subst (IsLockstepReport bridge_start records) (sym is) (played_is_report bridge_start records) }
+-- the report of a run of some turns of the records
+text_report : (start : Start) (turns : List Turn) (records : List TapeRecord) (text : List ℕ) → items_of turns ≡ records → text ≡ report_text (played_report (played start turns))
+    → IsLockstepReport start records text
+text_report start turns records text items_are is =
+    let P : List ℕ → Type 0 = λ t. IsLockstepReport start (items_of turns) t in
+    let Q : List TapeRecord → Type 0 = λ r. IsLockstepReport start r text in
+    subst Q items_are (subst P (sym is) (played_is_report start turns))
+
+-- the text of a run is the report of the tape
+pub replayed : (start : Start) (old new : Option (List ℕ)) (records all : List TapeRecord) (text : List ℕ) → IsWholeTape old new records → all ≡ records → IsTextOf start all text
+    → IsReplayed start old new text
+replayed start old new records all text whole all_are h = record {
+  records = records;
+  whole = whole;
+  report = text_report start h.played.turns records text (h.played.items_are ∙ all_are) (h.text_is ∙ ap (λ p. report_text (played_report p)) h.played.played_is);
+}

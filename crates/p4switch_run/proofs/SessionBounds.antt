@@ -1,29 +1,35 @@
--- How large the numbers of a run can be.
-use Rattle.std.proofs.Common.{ℕ, ◌+◌, ◌<◌, arith, length-append}
+-- How large the numbers of a run can be, and how its turns go on.
+use Rattle.std.proofs.Common.{◌≡◌, ℕ, ◌+◌, ◌<◌, ◌⊎◌, List, [], ◌∷◌, ◌++◌, refl, ap, ◌∙◌, sym, subst, inl, inr, arith, length-append}
+use Rattle.std.proofs.lemmas.List.Sums.{fold-append}
+use Rattle.std.proofs.lemmas.List.{map-append}
+use Rattle.p4_types.specs.declared.events.Start.{Start}
 use Rattle.p4_types.specs.declared.journal.Entry.{Entry}
 use Rattle.p4_types.specs.declared.records.Record.{Record}
 use Rattle.p4_types.specs.declared.tape.TapeRecord.{TapeRecord}
 use Rattle.p4_types.specs.declared.tape.TapeRecord.TheVariants.{Call, Packet}
 use Rattle.switch_spec.specs.Answer.{LaneCall}
-use Rattle.switch_spec.specs.Play.{Played, next_call, play}
+use Rattle.switch_spec.specs.Play.{Played, Turn, Answers, Refuses, Carries, item_of, begun, next_call, play}
 use Rattle.switch_spec.proofs.Answers.{answer_sound}
-use Rattle.p4switch_run.specs.Session.{State, played_of, IsWithin, HasRoom}
+use Rattle.p4switch_run.specs.Session.{State, played_of, Plays, IsPlayed, IsWithin, HasRoom}
 
--- one record more
-pub within_play : (n : ℕ) (p : Played) (x : TapeRecord) → IsWithin n p → IsWithin (n + 1) (play p x)
+-- one turn more
+within_play : (n : ℕ) (p : Played) (turn : Turn) → IsWithin n p → IsWithin (n + 1) (play p turn)
 unfolding play
-within_play n p (Call lane method message) h =
+within_play n p (Answers lane method message) h =
     let call : LaneCall = record { method = method; message = message } in
     let sound = answer_sound p.control lane (next_call lane p) call in
     record {
-      steps = omega (arith, h.steps, sound.one_step);
-      next = omega (arith, h.next, sound.one_number);
+      steps = omega (arith, h.steps, sound.few_steps);
       calls = omega (arith, h.calls, length-append {A = Entry});
       packets = omega (arith, h.packets);
     }
-within_play n p (Packet lane port packet) h = record {
+within_play n p (Refuses lane method message) h = record {
   steps = omega (arith, h.steps);
-  next = omega (arith, h.next);
+  calls = omega (arith, h.calls, length-append {A = Entry});
+  packets = omega (arith, h.packets);
+}
+within_play n p (Carries lane port packet) h = record {
+  steps = omega (arith, h.steps);
   calls = omega (arith, h.calls);
   packets = omega (arith, h.packets, length-append {A = Record});
 }
@@ -31,7 +37,35 @@ within_play n p (Packet lane port packet) h = record {
 pub room_within : (n : ℕ) (s : State) → n < 1000000 → IsWithin n (played_of s) → HasRoom s
 room_within n s below h = record {
   steps = omega (arith, h.steps);
-  next = omega (arith, h.next);
   calls = omega (arith, h.calls);
   packets = omega (arith, h.packets);
 }
+
+-- what a record makes of the run is one of its turns
+pub record OneTurn (p : Played) (item : TapeRecord) (q : Played) : Type 0 where
+  pub turn : Turn
+  pub item_is : item_of turn ≡ item
+  pub played_is : q ≡ play p turn
+
+call_turn : (lane method : ℕ) (message : List ℕ) (p q : Played) → (q ≡ play p (Answers lane method message)) ⊎ (q ≡ play p (Refuses lane method message)) → OneTurn p (Call lane method message) q
+call_turn lane method message p q (inl is) = record { turn = Answers lane method message; item_is = refl; played_is = is }
+call_turn lane method message p q (inr is) = record { turn = Refuses lane method message; item_is = refl; played_is = is }
+
+one_turn : (item : TapeRecord) (p q : Played) → Plays p item q → OneTurn p item q
+one_turn (Call lane method message) p q h = call_turn lane method message p q h
+one_turn (Packet lane port packet) p q h = record { turn = Carries lane port packet; item_is = refl; played_is = h }
+
+pub within_more : (n : ℕ) (item : TapeRecord) (p q : Played) → Plays p item q → IsWithin n p → IsWithin (n + 1) q
+within_more n item p q h within =
+    let t = one_turn item p q h in subst (IsWithin (n + 1)) (sym t.played_is) (within_play n p t.turn within)
+
+pub played_none : (start : Start) (p : Played) → p ≡ begun start → IsPlayed start [] p
+played_none start p is = record { turns = []; items_are = refl; played_is = is }
+
+pub played_more : (start : Start) (items : List TapeRecord) (item : TapeRecord) (p q : Played) → IsPlayed start items p → Plays p item q → IsPlayed start (items ++ item ∷ []) q
+played_more start items item p q h plays =
+    let t = one_turn item p q plays in record {
+      turns = h.turns ++ t.turn ∷ [];
+      items_are = map-append item_of h.turns (t.turn ∷ []) ∙ ap (λ l. l ++ item_of t.turn ∷ []) h.items_are ∙ ap (λ i. items ++ i ∷ []) t.item_is;
+      played_is = t.played_is ∙ ap (λ x. play x t.turn) h.played_is ∙ sym (fold-append play (begun start) h.turns (t.turn ∷ []));
+    }

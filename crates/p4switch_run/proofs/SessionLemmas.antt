@@ -1,83 +1,175 @@
--- One step of the run in one pass, as the program makes it.
-use Rattle.std.proofs.Common.{◌≡◌, ℕ, ◌+◌, List, [], ◌∷◌, ◌++◌, length, Option, Some, None, Result, Ok, Err, OnOk, ap, ◌∙◌, add-zero}
-use Rattle.p4_types.specs.declared.bridge.BridgeEntry.{BridgeEntry}
-use Rattle.p4_types.specs.declared.bridge.BridgeInsert.{BridgeInsert}
-use Rattle.p4_types.specs.declared.code.Cause.{Cause}
-use Rattle.p4_types.specs.declared.code.Code.{Code}
-use Rattle.p4_types.specs.declared.code.Code.TheVariants as codes
-use Rattle.p4_types.specs.declared.records.HitMark.TheVariants as marks
-use Rattle.p4_types.specs.declared.tape.TapeRecord.TheVariants.{Call, Packet}
+-- A call that was handled, with its entry in the journal, is one more turn of the run.
+use Rattle.std.proofs.Common.{◌≡◌, ℕ, ◌+◌, ◌<◌, ◌==◌, Bool, true, false, cond, List, [], ◌∷◌, ◌++◌, length, drop, slice_index, set, refl, ap, ◌∙◌, sym, subst, inl, inr, arith, add-zero, length-set}
+use Rattle.std.proofs.lemmas.List.{append-nil, get_or-set_same, get_or-set_other}
+use Rattle.std.proofs.Math.Seq.{drop-append_seam}
+use Rattle.std.proofs.lemmas.List.Sums.{sum_by-append}
+use Rattle.std.proofs.lemmas.Bool.{eqb-true, eqb-false}
+use Rattle.std.specs.Prelude.{count_by, sum_by}
+use Rattle.std.specs.List.{filter_map}
+use Rattle.p4_types.specs.declared.calls.Call as calls
+use Rattle.p4_types.specs.declared.calls.Reply.{Reply}
+use Rattle.p4_types.specs.declared.events.Event.{Event}
+use Rattle.p4_types.specs.declared.journal.Entry.{Entry}
+use Rattle.p4_types.specs.declared.journal.Step.{Step}
+use Rattle.p4_types.specs.declared.records.Record.{Record}
+use Rattle.p4_types.specs.declared.tape.TapeRecord.TheVariants.{Call}
 use Rattle.p4_types.specs.declared.tape.Who.TheVariants.{Worker}
-use Rattle.switch_spec.specs.Answer.{Answer, plain, unimplemented, written, answer_by, answer}
-use Rattle.switch_spec.specs.Bridge.{bridge_table}
-use Rattle.switch_spec.specs.Control.{cause, insert_unless, applied}
-use Rattle.switch_spec.specs.History.{steps_of, reply_of}
-use Rattle.switch_spec.specs.Insert.{insert_of}
-use Rattle.switch_spec.specs.Meaning.{meaning, forwarded, best, key_of, record_of}
-use Rattle.switch_spec.specs.Play.{Played, next_call, next_packet, play}
-use Rattle.switch_spec.specs.Status.{write_status}
-use Rattle.p4switch_run.specs.Bridge.{control_of}
-use Rattle.p4switch_run.specs.Session.{State, played_of, with_refusal, with_insert, with_packet}
+use Rattle.p4v1_read.specs.Calls.{call_of}
+use Rattle.ctl_core.specs.Core.{HandledBy, IsAnswered, IsRefused, replied, without_memory}
+use Rattle.switch_spec.specs.Answer.{Answer, answer, answer_to}
+use Rattle.switch_spec.specs.Control.{Control, applied}
+use Rattle.switch_spec.specs.History.{is_unavailable, step_of, steps_of, reply_of}
+use Rattle.switch_spec.specs.Meaning.{meaning, record_of}
+use Rattle.switch_spec.specs.Play.{Played, Answers, Refuses, Carries, next_call, next_packet, play}
+use Rattle.switch_spec.proofs.Answers.{answer_to_sound}
+use Rattle.p4switch_run.specs.Session.{State, played_of, IsSession, IsHandled, Plays}
 
--- the run after a call with this answer
-play_by : State → ℕ → Answer → Played
-play_by s lane a = record {
-  control = applied (control_of s.table) a.events;
-  steps = s.steps + length (steps_of a.events);
-  journal = s.journal ++ (record { lane = lane; call = next_call lane (played_of s); steps = steps_of a.events; reply = reply_of s.steps a }) ∷ [];
-  records = s.records;
+-- a run by its parts
+abbrev pub run_of : Control → ℕ → List Entry → List Record → Played
+run_of c n journal records = record { control = c; steps = n; journal = journal; records = records }
+
+same_run : (c d : Control) (n m : ℕ) (j k : List Entry) (r q : List Record) → c ≡ d → n ≡ m → j ≡ k → r ≡ q → run_of c n j r ≡ run_of d m k q
+same_run c d n m j k r q e f g h =
+    ap (λ x. run_of x n j r) e ∙ ap (λ x. run_of d x j r) f ∙ ap (λ x. run_of d m x r) g ∙ ap (λ x. run_of d m k x) h
+
+abbrev pub entry_of : ℕ → ℕ → List Step → Reply → Entry
+entry_of lane k steps reply = record { lane = lane; call = k; steps = steps; reply = reply }
+
+same_entry : (lane k l : ℕ) (s t : List Step) (a b : Reply) → k ≡ l → s ≡ t → a ≡ b → entry_of lane k s a ≡ entry_of lane l t b
+same_entry lane k l s t a b e f g = ap (λ x. entry_of lane x s a) e ∙ ap (λ x. entry_of lane l x a) f ∙ ap (λ x. entry_of lane l t x) g
+
+-- the state with the call's entry in the journal
+abbrev pub with_entry : State → Entry → State
+with_entry s entry = record s { journal = s.journal ++ entry ∷ [] }
+
+abbrev pub with_journal : State → List Entry → State
+with_journal s journal = record s { journal = journal }
+
+-- the number of a lane's next call is that of its calls and one
+next_is : (s : State) (lane : ℕ) → IsSession s → lane < 32 → slice_index s.core.calls lane + 1 ≡ next_call lane (played_of s)
+next_is s lane h below = ap (λ n. n + 1) (h.counted lane below)
+
+-- the steps of what was handed on
+new_steps : (old new added : List Event) → new ≡ old ++ added → filter_map step_of (drop (length old) new) ≡ steps_of added
+new_steps old new added is = ap (λ l. filter_map step_of (drop (length old) l)) is ∙ ap (filter_map step_of) (drop-append_seam old added)
+
+abbrev pub with_steps : Reply → ℕ → Reply
+with_steps r n = record r { steps = n }
+
+answered_plays : (lane method : ℕ) (message : List ℕ) (reply : Reply) (old new : State) (k : ℕ) (steps : List Step) → IsSession old → lane < 32
+    → IsHandled lane (call_of method message) reply old new → k ≡ next_call lane (played_of old) → steps ≡ filter_map step_of (drop (length old.events) new.events)
+    → IsAnswered old.core.control old.core.steps old.events (answer_to old.core.control lane (slice_index old.core.calls lane + 1) (call_of method message)) reply new.core.control new.events
+    → played_of (with_entry new (entry_of lane k steps reply)) ≡ play (played_of old) (Answers lane method message)
+unfolding play answer
+answered_plays lane method message reply old new k steps session below h k_is steps_are a =
+    let next : ℕ = next_call lane (played_of old) in
+    let f : ℕ → Answer = λ n. answer_to old.core.control lane n (call_of method message) in
+    let is : f (slice_index old.core.calls lane + 1) ≡ f next = ap f (next_is old lane session below) in
+    let all : length (steps_of (f next).events) ≡ length (f next).events = (answer_to_sound (call_of method message) old.core.control lane next).all_steps in
+    let reply_is : reply ≡ reply_of old.core.steps (f next) =
+    a.reply_is ∙ ap (λ x. replied old.core.steps x) is ∙ ap (λ n. with_steps (replied old.core.steps (f next)) (old.core.steps + n)) (sym all) in
+    same_run _ _ _ _ _ _ _ _
+    (a.control ∙ ap (λ x. applied old.core.control x.events) is)
+    (h.steps ∙ ap (λ r. r.steps) reply_is)
+    (ap (λ j. j ++ entry_of lane k steps reply ∷ []) h.journal
+    ∙ ap (λ e. old.journal ++ e ∷ []) (same_entry lane k next steps (steps_of (f next).events) reply (reply_of old.core.steps (f next)) k_is
+    (steps_are ∙ new_steps old.events new.events _ (a.handed ∙ ap (λ x. old.events ++ x.events) is)) reply_is))
+    h.records
+
+refused_plays : (lane method : ℕ) (message : List ℕ) (reply : Reply) (old new : State) (k : ℕ) (steps : List Step)
+    → IsHandled lane (call_of method message) reply old new → k ≡ next_call lane (played_of old) → steps ≡ filter_map step_of (drop (length old.events) new.events)
+    → IsRefused old.core.control old.core.steps old.events reply new.core.control new.events
+    → played_of (with_entry new (entry_of lane k steps reply)) ≡ play (played_of old) (Refuses lane method message)
+unfolding play
+refused_plays lane method message reply old new k steps h k_is steps_are r =
+    same_run _ _ _ _ _ _ _ _
+    r.control
+    (h.steps ∙ ap (λ x. x.steps) r.reply_is)
+    (ap (λ j. j ++ entry_of lane k steps reply ∷ []) h.journal
+    ∙ ap (λ e. old.journal ++ e ∷ []) (same_entry lane k (next_call lane (played_of old)) steps [] reply (without_memory old.core.steps) k_is
+    (steps_are ∙ new_steps old.events new.events [] (r.handed ∙ sym (append-nil old.events))) r.reply_is))
+    h.records
+
+plays_by : (b : Bool) (lane method : ℕ) (message : List ℕ) (reply : Reply) (old new : State) (k : ℕ) (steps : List Step) → IsSession old → lane < 32
+    → IsHandled lane (call_of method message) reply old new → k ≡ next_call lane (played_of old) → steps ≡ filter_map step_of (drop (length old.events) new.events)
+    → HandledBy b old.core.control old.core.steps old.events (answer_to old.core.control lane (slice_index old.core.calls lane + 1) (call_of method message)) reply new.core.control new.events
+    → Plays (played_of old) (Call lane method message) (played_of (with_entry new (entry_of lane k steps reply)))
+plays_by true lane method message reply old new k steps session below h k_is steps_are r = inr (refused_plays lane method message reply old new k steps h k_is steps_are r)
+plays_by false lane method message reply old new k steps session below h k_is steps_are a = inl (answered_plays lane method message reply old new k steps session below h k_is steps_are a)
+
+-- the number of calls that stands for the lane now
+pub number_is : (lane : ℕ) (old new : State) (call : calls.Call) (reply : Reply) → IsSession old → lane < 32 → IsHandled lane call reply old new
+    → slice_index new.core.calls lane ≡ next_call lane (played_of old)
+number_is lane old new call reply session below h =
+    ap (λ c. slice_index c lane) h.calls ∙ get_or-set_same old.core.calls lane _ 0 (omega (arith, session.wide)) ∙ next_is old lane session below
+
+-- the run with the call's entry is one turn more
+pub call_plays : (lane method : ℕ) (message : List ℕ) (reply : Reply) (old new : State) (k : ℕ) (steps : List Step) → IsSession old → lane < 32
+    → IsHandled lane (call_of method message) reply old new → k ≡ slice_index new.core.calls lane → steps ≡ filter_map step_of (drop (length old.events) new.events)
+    → Plays (played_of old) (Call lane method message) (played_of (with_entry new (entry_of lane k steps reply)))
+call_plays lane method message reply old new k steps session below h k_is steps_are =
+    plays_by (is_unavailable reply.code) lane method message reply old new k steps session below h
+    (k_is ∙ number_is lane old new (call_of method message) reply session below h) steps_are h.handled
+
+one_more : (b : Bool) → 0 + cond b 1 0 ≡ cond b 1 0
+one_more true = refl
+one_more false = refl
+
+-- one more item is counted where its test holds
+count_push : (test : Entry → Bool) (list : List Entry) (entry : Entry) → count_by test (list ++ entry ∷ []) ≡ count_by test list + cond (test entry) 1 0
+count_push test list entry = sum_by-append (λ e. cond (test e) 1 0) list (entry ∷ []) ∙ ap (λ n. sum_by (λ e. cond (test e) 1 0) list + n) (one_more (test entry))
+
+place_counted : (b : Bool) (lane place : ℕ) (old : State) (calls : List ℕ) (journal : List Entry) (entry : Entry) → (lane == place) ≡ b → lane < 32 → length old.core.calls ≡ 32
+    → calls ≡ set old.core.calls lane (slice_index old.core.calls lane + 1) → entry.lane ≡ lane
+    → slice_index old.core.calls place ≡ count_by (λ e. e.lane == place) journal
+    → slice_index calls place ≡ count_by (λ e. e.lane == place) journal + cond (lane == place) 1 0
+place_counted true lane place old calls journal entry is below wide calls_are of_lane before =
+    let same : lane ≡ place = eqb-true lane place is in
+    ap (λ c. slice_index c place) calls_are
+    ∙ ap (λ i. slice_index (set old.core.calls i (slice_index old.core.calls i + 1)) place) same
+    ∙ get_or-set_same old.core.calls place _ 0 (omega (arith, wide, same))
+    ∙ ap (λ n. n + 1) before
+    ∙ ap (λ b. count_by (λ e. e.lane == place) journal + cond b 1 0) (sym is)
+place_counted false lane place old calls journal entry is below wide calls_are of_lane before =
+    ap (λ c. slice_index c place) calls_are
+    ∙ get_or-set_other old.core.calls lane place _ 0 (λ e. eqb-false lane place is (sym e))
+    ∙ before
+    ∙ sym (add-zero _)
+    ∙ ap (λ b. count_by (λ e. e.lane == place) journal + cond b 1 0) (sym is)
+
+-- with the call's entry in the journal the state is that of a session again
+pub call_session : (lane : ℕ) (call : calls.Call) (reply : Reply) (old new : State) (entry : Entry) → IsSession old → lane < 32 → IsHandled lane call reply old new → entry.lane ≡ lane
+    → IsSession (with_entry new entry)
+call_session lane call reply old new entry session below h of_lane = record {
+  agrees = h.agrees;
+  wide = ap length h.calls ∙ length-set old.core.calls lane _ ∙ session.wide;
+  counted = λ place within.
+      place_counted (lane == place) lane place old new.core.calls old.journal entry refl below session.wide h.calls of_lane (session.counted place within)
+      ∙ ap (λ l. count_by (λ e. e.lane == place) old.journal + cond (l == place) 1 0) (sym of_lane)
+      ∙ sym (count_push (λ e. e.lane == place) old.journal entry)
+      ∙ ap (λ j. count_by (λ e. e.lane == place) (j ++ entry ∷ [])) (sym h.journal);
 }
 
-play_is : (s : State) (lane method : ℕ) (message : List ℕ) (o : Option BridgeInsert) → insert_of method message ≡ o
-    → play (played_of s) (Call lane method message) ≡ play_by s lane (answer_by o (control_of s.table) lane (next_call lane (played_of s)) method)
-unfolding play play_by answer
-play_is s lane method message o read = ap (λ i. play_by s lane (answer_by i (control_of s.table) lane (next_call lane (played_of s)) method)) read
+-- the same with the journal as it was computed
+pub call_turn : (lane method : ℕ) (message : List ℕ) (reply : Reply) (old mid : State) (k before : ℕ) (steps : List Step) (journal : List Entry) → IsSession old → lane < 32
+    → IsHandled lane (call_of method message) reply old mid → k ≡ slice_index mid.core.calls lane → before ≡ length old.events
+    → steps ≡ filter_map step_of (drop before mid.events) → journal ≡ mid.journal ++ entry_of lane k steps reply ∷ []
+    → Plays (played_of old) (Call lane method message) (played_of (with_journal mid journal)) × IsSession (with_journal mid journal)
+call_turn lane method message reply old mid k before steps journal session below h k_is before_is steps_are journal_is =
+    let P : List Entry → Type 0 = λ j. Plays (played_of old) (Call lane method message) (played_of (with_journal mid j)) × IsSession (with_journal mid j) in
+    subst P (sym journal_is) (
+      call_plays lane method message reply old mid k steps session below h k_is (steps_are ∙ ap (λ n. filter_map step_of (drop n mid.events)) before_is),
+      call_session lane (call_of method message) reply old mid (entry_of lane k steps reply) session below h refl,
+    )
 
-play_plain : (s : State) (lane : ℕ) (code : Code) (messages : List (List ℕ)) → play_by s lane (plain code messages) ≡ played_of (with_refusal s lane code messages)
-unfolding play_by
-play_plain s lane code messages =
-    let f : ℕ → Played = λ n. record (played_of (with_refusal s lane code messages)) { steps = n } in ap f (add-zero s.steps)
+abbrev pub with_records : State → List Record → State
+with_records s records = record s { records = records }
 
--- a call that is not the INSERT that is served
-pub play_unserved : (s : State) (lane method : ℕ) (message : List ℕ) → insert_of method message ≡ None
-    → play (played_of s) (Call lane method message) ≡ played_of (with_refusal s lane codes.Unimplemented (unimplemented method).messages)
-play_unserved s lane method message none = play_is s lane method message None none ∙ play_plain s lane codes.Unimplemented (unimplemented method).messages
-
--- an INSERT that is refused
-pub play_refused : (s : State) (lane method : ℕ) (message : List ℕ) (insert : BridgeInsert) (refused : Cause) → insert_of method message ≡ Some insert
-    → cause s.table.entries insert ≡ Some refused
-    → play (played_of s) (Call lane method message) ≡ played_of (with_refusal s lane codes.Unknown (write_status refused ∷ []))
-play_refused s lane method message insert refused some is =
-    play_is s lane method message (Some insert) some
-    ∙ ap (λ o. play_by s lane (written lane (next_call lane (played_of s)) insert o)) is
-    ∙ play_plain s lane codes.Unknown (write_status refused ∷ [])
-
--- an INSERT that is made
-pub play_made : (s : State) (lane method : ℕ) (message : List ℕ) (insert : BridgeInsert) → insert_of method message ≡ Some insert
-    → cause s.table.entries insert ≡ None
-    → play (played_of s) (Call lane method message) ≡ played_of (with_insert s lane insert)
-unfolding play_by
-play_made s lane method message insert some is =
-    let p : Played = played_of (with_insert s lane insert) in
-    play_is s lane method message (Some insert) some
-    ∙ ap (λ o. play_by s lane (written lane (next_call lane (played_of s)) insert o)) is
-    ∙ ap (λ o. let q : Played = record p { control = insert_unless o (control_of s.table) s.table.entries insert } in q) is
-
--- a packet that no entry hits
-pub play_missed : (s : State) (lane port : ℕ) (packet : List ℕ) → best s.table.entries (key_of packet) ≡ None
-    → play (played_of s) (Packet lane port packet) ≡ played_of (with_packet s lane 1 [] [])
-unfolding play meaning
-play_missed s lane port packet is =
-    ap (λ o. let q : Played = record (played_of s) { records = s.records ++ record_of (Worker lane) (next_packet lane (played_of s)) s.steps (forwarded o packet) ∷ [] } in q) is
-
--- a packet that an entry hits
-pub play_hit : (s : State) (lane port : ℕ) (packet : List ℕ) (entry : BridgeEntry) → best s.table.entries (key_of packet) ≡ Some entry
-    → play (played_of s) (Packet lane port packet) ≡ played_of (with_packet s lane 0 ((entry.port, packet) ∷ []) (marks.Entry bridge_table entry.seq ∷ []))
-unfolding play meaning
-play_hit s lane port packet entry is =
-    ap (λ o. let q : Played = record (played_of s) { records = s.records ++ record_of (Worker lane) (next_packet lane (played_of s)) s.steps (forwarded o packet) ∷ [] } in q) is
-
--- what follows where a call succeeds
-pub on_ok : {A E : Type 0} (P Q : Type 0) (r : Result A E) → (P → Q) → OnOk r P → OnOk r Q
-on_ok P Q (Ok x) f h = f h
-on_ok P Q (Err e) f h = tt
+-- the run with a packet's record is one turn more
+pub packet_turn : (lane port : ℕ) (packet : List ℕ) (s t : State) (outcome : Record) (records : List Record) → t ≡ s
+    → outcome ≡ record_of (Worker lane) (next_packet lane (played_of s)) s.core.steps (meaning s.core.control port packet) → records ≡ t.records ++ outcome ∷ []
+    → played_of (with_records t records) ≡ play (played_of s) (Carries lane port packet)
+unfolding play
+packet_turn lane port packet s t outcome records same outcome_is records_are =
+    ap (λ x. played_of (with_records x records)) same
+    ∙ ap (λ r. played_of (with_records s r)) (records_are ∙ ap (λ x. x.records ++ outcome ∷ []) same ∙ ap (λ o. s.records ++ o ∷ []) outcome_is)

@@ -1,12 +1,18 @@
 -- The words of the command line, and the lines on standard error (this project's profile).
-use Rattle.std.specs.Prelude.{◌≡◌, ℕ, List, [], ◌∷◌, ◌++◌, codes}
+use Rattle.std.specs.Prelude.{◌≡◌, ◌⊎◌, ℕ, Bool, true, false, List, [], ◌∷◌, ◌++◌, codes}
 use Rattle.std.specs.Fmt.{decimal}
 use Rattle.p4switch_run.specs.declared.status.Status.{Status}
 use Rattle.p4switch_run.specs.declared.status.Status.TheVariants as statuses
 
--- the words, behind the program's name, of the one command that is served
+-- the words, behind the program's name, of a replay in lockstep, with the bridge or without it; the options come in any order
+abbrev pub IsReplay : Bool → List (List ℕ) → Type 0
+IsReplay false words = words ≡ codes "replay" ∷ codes "--lockstep" ∷ []
+IsReplay true words =
+    (words ≡ codes "replay" ∷ codes "--lockstep" ∷ codes "--bridge" ∷ []) ⊎ (words ≡ codes "replay" ∷ codes "--bridge" ∷ codes "--lockstep" ∷ [])
+
+-- the words are in the grammar
 abbrev pub IsCommand : List (List ℕ) → Type 0
-IsCommand words = words ≡ codes "replay" ∷ codes "--lockstep" ∷ codes "--bridge" ∷ []
+IsCommand words = (bridge : Bool) × IsReplay bridge words
 
 -- the exit status
 abbrev pub status_number : Status → ℕ

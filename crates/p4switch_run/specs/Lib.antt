@@ -1,8 +1,7 @@
-pub mod Bridge
 pub mod Command
-pub mod Inserts
 pub mod Replay
 pub mod Run
 pub mod Session
+pub mod Starts
 pub mod Tallies
 pub mod Tell

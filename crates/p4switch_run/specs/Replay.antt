@@ -1,10 +1,13 @@
 -- What each answer of a replay says of what was read and written.
-use Rattle.std.specs.Prelude.{ℕ, List, Option, Err, ⊤}
+use Rattle.std.specs.Prelude.{◌≡◌, ℕ, List, Option, Err, ⊤}
 use Rattle.p4_types.specs.declared.tape.TapeRecord.{TapeRecord}
 use Rattle.sw_edge.specs.Counts.{Rose}
 use Rattle.sw_edge.specs.Told.{Keeps, Appends, AppendsPrefix}
 use Rattle.switch_spec.specs.Report.{IsLockstepReport}
-use Rattle.switch_spec.specs.Rows.{bridge_start}
+use Rattle.p4_types.specs.declared.events.Start.{Start}
+use Rattle.switch_spec.specs.Play.{Played, played_report}
+use Rattle.switch_spec.specs.ReportText.{report_text}
+use Rattle.p4switch_run.specs.Session.{IsPlayed}
 use Rattle.tape_form.specs.TapeRead.{IsReadFrom, IsWholeTape, IsBadAt, IsTooLong}
 use Rattle.tape_form.specs.declared.fault.TapeFault.TheVariants as faults
 use Rattle.p4switch_run.specs.declared.status.Status.{Status}
@@ -21,21 +24,21 @@ abbrev pub streams : Option (List ℕ) → Option (List ℕ) → ℕ → ℕ →
 streams left sent read_faults write_faults = record { left = left; sent = sent; read_faults = read_faults; write_faults = write_faults }
 
 -- The bytes that were left are a tape, all of them were taken, and the text is its report, in the lockstep reading.
-pub record IsReplayed (old new : Option (List ℕ)) (text : List ℕ) : Type 0 where
+pub record IsReplayed (start : Start) (old new : Option (List ℕ)) (text : List ℕ) : Type 0 where
   pub records : List TapeRecord
   pub whole : IsWholeTape old new records
-  pub report : IsLockstepReport bridge_start records text
+  pub report : IsLockstepReport start records text
 
 -- the report was written
-pub record IsWritten (old new : Streams) : Type 0 where
+pub record IsWritten (start : Start) (old new : Streams) : Type 0 where
   pub text : List ℕ
-  pub replayed : IsReplayed old.left new.left text
+  pub replayed : IsReplayed start old.left new.left text
   pub written : Appends old.sent new.sent text
 
 -- some first bytes of the report were written, since the sink failed
-pub record IsCutShort (old new : Streams) : Type 0 where
+pub record IsCutShort (start : Start) (old new : Streams) : Type 0 where
   pub text : List ℕ
-  pub replayed : IsReplayed old.left new.left text
+  pub replayed : IsReplayed start old.left new.left text
   pub written : AppendsPrefix old.sent new.sent text
   pub fault : Rose old.write_faults new.write_faults
 
@@ -49,11 +52,17 @@ pub record Nothing (old new : Streams) (cause : Type 0) : Type 0 where
   pub «because» : cause
 
 -- what each answer says; a replay does not refuse words
-abbrev pub Answers : Status → Streams → Streams → Type 0
-Answers statuses.Done old new = IsWritten old new
-Answers (statuses.NotATape place) old new = Nothing old new (IsBadAt old.left new.left place × ReadWith (faults.Bad place) old new)
-Answers statuses.WordsRefused old new = ⊥
-Answers statuses.NoMemory old new = Nothing old new ⊤
-Answers statuses.ReadFault old new = Nothing old new (Rose old.read_faults new.read_faults)
-Answers statuses.WriteFault old new = IsCutShort old new
-Answers statuses.TooLong old new = Nothing old new (IsTooLong old.left new.left × ReadWith faults.TooLong old new)
+abbrev pub Answers : Start → Status → Streams → Streams → Type 0
+Answers start statuses.Done old new = IsWritten start old new
+Answers start (statuses.NotATape place) old new = Nothing old new (IsBadAt old.left new.left place × ReadWith (faults.Bad place) old new)
+Answers start statuses.WordsRefused old new = ⊥
+Answers start statuses.NoMemory old new = Nothing old new ⊤
+Answers start statuses.ReadFault old new = Nothing old new (Rose old.read_faults new.read_faults)
+Answers start statuses.WriteFault old new = IsCutShort start old new
+Answers start statuses.TooLong old new = Nothing old new (IsTooLong old.left new.left × ReadWith faults.TooLong old new)
+
+-- the text is the report of a run of these records
+pub record IsTextOf (start : Start) (records : List TapeRecord) (text : List ℕ) : Type 0 where
+  pub run : Played
+  pub played : IsPlayed start records run
+  pub text_is : text ≡ report_text (played_report run)

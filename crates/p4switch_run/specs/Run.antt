@@ -1,24 +1,43 @@
 -- What the exit status of a run says.
-use Rattle.std.specs.Prelude.{◌≡◌, ℕ, ◌≤◌, List, length, Option, Some}
+use Rattle.std.specs.Prelude.{◌≡◌, ℕ, ◌≤◌, Bool, List, length, Option, Some}
 use Rattle.p4_types.specs.declared.tape.TapeRecord.{TapeRecord}
 use Rattle.sw_edge.specs.declared.answers.Sent.{Sent}
 use Rattle.switch_spec.specs.Tape.{IsTape}
 use Rattle.tape_form.specs.TapeRead.{IsBadAt}
 use Rattle.p4switch_run.specs.declared.status.Status.{Status}
 use Rattle.p4switch_run.specs.declared.status.Status.TheVariants as statuses
-use Rattle.p4switch_run.specs.Command.{IsCommand, status_number, status_line}
-use Rattle.p4switch_run.specs.Replay.{Streams, Answers}
+use Rattle.p4switch_run.specs.Command.{IsReplay, IsCommand, status_number, status_line}
+use Rattle.p4switch_run.specs.Replay.{Streams, Answers, IsWritten, IsCutShort}
+use Rattle.p4switch_run.specs.Starts.{start_of}
 use Rattle.p4switch_run.specs.Tell.{IsSaid}
+
+-- The words ask for a replay with this start, or without it, and it was answered so.
+pub record IsRun (status : Status) (words : List (List ℕ)) (old new : Streams) : Type 0 where
+  pub bridge : Bool
+  pub command : IsReplay bridge words
+  pub answers : Answers (start_of bridge) status old new
 
 -- What each status says of the words and of what was read and written. Refused words leave all as it was.
 abbrev pub Ends : Status → List (List ℕ) → Streams → Streams → Type 0
-Ends statuses.Done words old new = IsCommand words × Answers statuses.Done old new
-Ends (statuses.NotATape place) words old new = IsCommand words × Answers (statuses.NotATape place) old new
+Ends statuses.Done words old new = IsRun statuses.Done words old new
+Ends (statuses.NotATape place) words old new = IsRun (statuses.NotATape place) words old new
 Ends statuses.WordsRefused words old new = (IsCommand words → ⊥) × (new ≡ old)
-Ends statuses.NoMemory words old new = IsCommand words × Answers statuses.NoMemory old new
-Ends statuses.ReadFault words old new = IsCommand words × Answers statuses.ReadFault old new
-Ends statuses.WriteFault words old new = IsCommand words × Answers statuses.WriteFault old new
-Ends statuses.TooLong words old new = IsCommand words × Answers statuses.TooLong old new
+Ends statuses.NoMemory words old new = IsRun statuses.NoMemory words old new
+Ends statuses.ReadFault words old new = IsRun statuses.ReadFault words old new
+Ends statuses.WriteFault words old new = IsRun statuses.WriteFault words old new
+Ends statuses.TooLong words old new = IsRun statuses.TooLong words old new
+
+-- the report of the replay that the words ask for was written
+pub record Reports (words : List (List ℕ)) (old new : Streams) : Type 0 where
+  pub bridge : Bool
+  pub command : IsReplay bridge words
+  pub written : IsWritten (start_of bridge) old new
+
+-- some first bytes of it were
+pub record Breaks (words : List (List ℕ)) (old new : Streams) : Type 0 where
+  pub bridge : Bool
+  pub command : IsReplay bridge words
+  pub cut : IsCutShort (start_of bridge) old new
 
 -- a sink of lines before and after: what it was sent, and how often it has failed
 pub record Lines : Type 0 where

@@ -1,64 +1,64 @@
 -- The run so far as the program keeps it.
-use Rattle.std.specs.Prelude.{ℕ, ◌+◌, ◌-◌, ◌^◌, ◌<◌, ◌≤◌, List, [], ◌∷◌, ◌++◌, length, None}
-use Rattle.p4_types.specs.declared.bridge.BridgeInsert.{BridgeInsert}
-use Rattle.p4_types.specs.declared.code.Code.{Code}
-use Rattle.p4_types.specs.declared.code.Code.TheVariants as codes
+use Rattle.std.specs.Prelude.{◌≡◌, ℕ, ◌+◌, ◌-◌, ◌*◌, ◌^◌, ◌<◌, ◌≤◌, ◌==◌, ◌⊎◌, List, length, slice_index, set}
+use Rattle.p4_types.specs.declared.calls.Call as calls
+use Rattle.p4_types.specs.declared.calls.Reply.{Reply}
+use Rattle.p4_types.specs.declared.events.Event.{Event}
+use Rattle.p4_types.specs.declared.events.Start.{Start}
 use Rattle.p4_types.specs.declared.journal.Entry.{Entry}
-use Rattle.p4_types.specs.declared.journal.Step.{Step}
-use Rattle.p4_types.specs.declared.journal.StepKind.TheVariants as kinds
-use Rattle.p4_types.specs.declared.records.HitMark.{HitMark}
 use Rattle.p4_types.specs.declared.records.Record.{Record}
-use Rattle.p4_types.specs.declared.tape.Who.TheVariants.{Worker}
-use Rattle.switch_spec.specs.Meaning.{dropped, record_of}
-use Rattle.switch_spec.specs.Play.{Played, next_call, next_packet}
-use Rattle.p4switch_run.specs.Bridge.{Table, control_of, with_entry}
+use Rattle.p4_types.specs.declared.tape.TapeRecord.{TapeRecord}
+use Rattle.p4_types.specs.declared.tape.TapeRecord.TheVariants.{Call, Packet}
+use Rattle.ctl_core.specs.Core.{Core, Handled}
+use Rattle.switch_spec.specs.Answer.{answer_to}
+use Rattle.switch_spec.specs.Control.{opened, applied}
+use Rattle.switch_spec.specs.Play.{Played, Turn, Answers, Refuses, Carries, items_of, play, played}
+use Rattle.p4switch_run.specs.Tallies.{Tallies}
 
 pub record State : Type 0 where
-  pub table : Table
-  pub steps : ℕ
+  pub core : Core
+  -- with what it started, and the events since then
+  pub start : Start
+  pub events : List Event
   pub journal : List Entry
   pub records : List Record
 
 abbrev pub played_of : State → Played
-played_of s = record { control = control_of s.table; steps = s.steps; journal = s.journal; records = s.records }
+played_of s = record { control = s.core.control; steps = s.core.steps; journal = s.journal; records = s.records }
 
--- the entry of a lane's next call
-abbrev pub next_entry : State → ℕ → Code → List (List ℕ) → List Step → Entry
-next_entry s lane code messages steps = record {
-  lane = lane;
-  call = next_call lane (played_of s);
-  steps = steps;
-  reply = record { code = code; messages = messages; notices = []; steps = s.steps + length steps; packet = None };
-}
+-- the control state is that behind the events, and each caller's calls are those of the journal
+pub record IsSession (s : State) : Type 0 where
+  pub agrees : applied (opened s.start) s.events ≡ s.core.control
+  pub wide : length s.core.calls ≡ 32
+  pub counted : Tallies (λ lane entry. entry.lane == lane) 32 s.core.calls s.journal
 
--- the run with a call that makes no step
-abbrev pub with_refusal : State → ℕ → Code → List (List ℕ) → State
-with_refusal s lane code messages = record s { journal = s.journal ++ next_entry s lane code messages [] ∷ [] }
+-- a call of a lane was handled, with this reply; it is not in the journal yet
+pub record IsHandled (lane : ℕ) (call : calls.Call) (reply : Reply) (old new : State) : Type 0 where
+  pub handled : Handled old.core.control old.core.steps old.events (answer_to old.core.control lane (slice_index old.core.calls lane + 1) call) reply new.core.control new.events
+  pub steps : new.core.steps ≡ reply.steps
+  pub calls : new.core.calls ≡ set old.core.calls lane (slice_index old.core.calls lane + 1)
+  pub agrees : applied (opened new.start) new.events ≡ new.core.control
+  pub journal : new.journal ≡ old.journal
+  pub records : new.records ≡ old.records
 
--- the run with a call that makes one entry
-abbrev pub with_insert : State → ℕ → BridgeInsert → State
-with_insert s lane insert = record s {
-  table = with_entry s.table insert;
-  steps = s.steps + 1;
-  journal = s.journal ++ next_entry s lane codes.Ok ([] ∷ []) (record { kind = kinds.Change; changes = 1 } ∷ []) ∷ [];
-}
+-- what a record of the tape makes of the run: a call is answered, or there is no memory for it
+abbrev pub Plays : Played → TapeRecord → Played → Type 0
+Plays p (Call lane method message) q = (q ≡ play p (Answers lane method message)) ⊎ (q ≡ play p (Refuses lane method message))
+Plays p (Packet lane port packet) q = q ≡ play p (Carries lane port packet)
 
--- no number of the run is beyond n
+-- The run of some turns of these records.
+pub record IsPlayed (start : Start) (items : List TapeRecord) (p : Played) : Type 0 where
+  pub turns : List Turn
+  pub items_are : items_of turns ≡ items
+  pub played_is : p ≡ played start turns
+
+-- no number of the run is beyond n, of which each call makes 4,096 steps at most
 pub record IsWithin (n : ℕ) (p : Played) : Type 0 where
-  pub steps : p.steps ≤ n
-  pub next : p.control.next ≤ n + 1
+  pub steps : p.steps ≤ n * 4096
   pub calls : length p.journal ≤ n
   pub packets : length p.records ≤ n
 
 -- no number of the run is at its end yet
 pub record HasRoom (s : State) : Type 0 where
-  pub steps : s.steps < 2 ^ 32 - 1
-  pub next : s.table.next < 2 ^ 32 - 1
+  pub steps : s.core.steps < 2 ^ 63
   pub calls : length s.journal < 2 ^ 32 - 1
   pub packets : length s.records < 2 ^ 32 - 1
-
--- the run with a worker's packet
-abbrev pub with_packet : State → ℕ → ℕ → List (ℕ × List ℕ) → List HitMark → State
-with_packet s lane fate outputs hits = record s {
-  records = s.records ++ record_of (Worker lane) (next_packet lane (played_of s)) s.steps (record (dropped fate) { outputs = outputs; hits = hits }) ∷ [];
-}

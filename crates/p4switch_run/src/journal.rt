@@ -1,70 +1,13 @@
-//! The calls and packets of a run, each with its number on its lane.
+//! The packets of a run, each with its number on its lane.
 ghost use Rattle.std.specs.Prelude.{◌≡◌, ◌==◌, ◌+◌, ◌-◌, ◌^◌, ◌<◌, ◌++◌, [], ◌∷◌, length, count_by, OnOk, OnErr};
 ghost use Rattle.switch_spec.specs.ReportText.{is_who};
 
 use p4_types::code::NoMemory;
-use p4_types::journal::Entry;
 use p4_types::list::List;
 use p4_types::records::Record;
 use p4_types::tape::Who;
 use std::alloc::Global;
 use std::marker::Model;
-
-/// The calls of a run, which a contract sees as the list of their entries.
-#[derive(Drop)]
-pub struct Journal {
-    entries: List<Entry>,
-    counts: [u32; 32],
-}
-
-impl Model for Journal {
-    ghost use Rattle.std.specs.Prelude.{List, ◌==◌};
-    ghost use Rattle.p4_types.specs.declared.journal.Entry.{Entry};
-    ghost use Rattle.p4switch_run.specs.Tallies.{Tallies};
-
-    ghost Value = { List Entry };
-
-    ghost view = { λ j. j.entries };
-
-    ghost invariant = { λ j. Tallies (λ lane entry. entry.lane == lane) 32 j.counts j.entries };
-}
-
-impl Journal {
-    pub fn open(alloc: Global) -> Journal
-        ensures { result ≡ [] }
-    {
-        Journal {
-            entries: List::new(alloc),
-            counts: [0; 32],
-        }
-    }
-
-    /// How many calls a lane has made.
-    pub fn count_of(&self, lane: u16) -> u32
-        requires { lane < 32 }
-        ensures { result ≡ count_by (λ entry. entry.lane == lane) self.now }
-    {
-        self.counts[lane as usize]
-    }
-
-    pub fn push(&mut self, entry: Entry) -> Result<(), NoMemory>
-        requires lane { entry.lane < 32 }
-        requires room { length self.old < 2 ^ 32 - 1 }
-        ensures ok { OnOk result (self.new ≡ self.old ++ entry ∷ []) }
-        ensures err { OnErr result (self.new ≡ self.old) }
-    {
-        let lane = entry.lane as usize;
-        self.entries.push(entry)?;
-        self.counts[lane] += 1;
-        Ok(())
-    }
-
-    pub fn into_list(self) -> List<Entry>
-        ensures { result ≡ self }
-    {
-        self.entries
-    }
-}
 
 /// The packets of the workers of a run, which a contract sees as the list of their records.
 #[derive(Drop)]

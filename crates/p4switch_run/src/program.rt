@@ -4,15 +4,29 @@ ghost use Rattle.sw_edge.specs.Counts.{Rose};
 ghost use Rattle.sw_edge.specs.Told.{Keeps};
 ghost use Rattle.tape_form.specs.TapeRead.{IsTooLong};
 ghost use Rattle.p4switch_run.specs.Command.{IsCommand};
-ghost use Rattle.p4switch_run.specs.Replay.{IsWritten, IsCutShort, streams};
-ghost use Rattle.p4switch_run.specs.Run.{Ends, HoldsTape, NamesPlace, SaysStatus, lines};
+ghost use Rattle.p4switch_run.specs.Replay.{streams};
+ghost use Rattle.p4switch_run.specs.Starts.{start_of};
+ghost use Rattle.p4switch_run.specs.Run.{Ends, Reports, Breaks, HoldsTape, NamesPlace, SaysStatus, lines};
 
-use crate::command::is_command;
+use crate::command::command;
 use crate::replay::replay;
 use crate::status::Status;
 use crate::tell::tell;
+use p4_types::events::Start;
 use std::alloc::Global;
 use sw_edge::{Clock, Net, Sink, Source};
+
+// With what a run starts, with the bridge or without a program.
+fn start_of(bridge: bool) -> Start
+    ensures { result ≡ start_of bridge }
+{
+    Start {
+        device: 1,
+        cpu: 255,
+        rows: 16_384,
+        bridge,
+    }
+}
 
 // What the words ask for is done, if they are in the grammar.
 fn status_of<S: Source, O: Sink>(alloc: Global, words: &[&str], tape: &mut S, out: &mut O) -> Status
@@ -22,15 +36,15 @@ fn status_of<S: Source, O: Sink>(alloc: Global, words: &[&str], tape: &mut S, ou
     ensures reads { S.faults tape.old ≤ S.faults tape.new }
     ensures writes { O.faults out.old ≤ O.faults out.new }
 {
-    if !is_command(words) {
-        return Status::WordsRefused;
+    match command(words) {
+        Some(bridge) => replay(alloc, start_of(bridge), tape, out),
+        None => Status::WordsRefused,
     }
-    replay(alloc, tape, out)
 }
 
-/// Runs the program with the words behind its name, and answers its exit status: `replay --lockstep
-/// --bridge` reads a tape from `tape`, runs it over the built-in bridge, and writes its report to `out`,
-/// which is made whole before its first byte is written. A status other than 0 has its line on `err`.
+/// Runs the program with the words behind its name, and answers its exit status: `replay --lockstep` reads a
+/// tape from `tape`, runs it without a program or with `--bridge` over the built-in bridge, and writes its
+/// report to `out`, which is made whole before its first byte is written. A status other than 0 has its line on `err`.
 /// The net and the clock are not used yet.
 pub fn run<S: Source, O: Sink, E: Sink, N: Net, K: Clock + Send>(
     alloc: Global,
@@ -42,7 +56,7 @@ pub fn run<S: Source, O: Sink, E: Sink, N: Net, K: Clock + Send>(
     clock: &mut K,
 ) -> u8
     // 0: the tape is read to its end, and what is written is its report, in the lockstep reading.
-    ensures report { result ≡ 0 → IsWritten
+    ensures report { result ≡ 0 → Reports (map (λ word. word.now) words.now)
         (streams (S.left tape.old) (O.sent out.old) (S.faults tape.old) (O.faults out.old))
         (streams (S.left tape.new) (O.sent out.new) (S.faults tape.new) (O.faults out.new)) }
 
@@ -58,7 +72,7 @@ pub fn run<S: Source, O: Sink, E: Sink, N: Net, K: Clock + Send>(
     ensures read_fault { result ≡ 4 → Rose (S.faults tape.old) (S.faults tape.new) }
 
     // 5: the sink failed, and some first bytes of the report were written.
-    ensures write_fault { result ≡ 5 → IsCutShort
+    ensures write_fault { result ≡ 5 → Breaks (map (λ word. word.now) words.now)
         (streams (S.left tape.old) (O.sent out.old) (S.faults tape.old) (O.faults out.old))
         (streams (S.left tape.new) (O.sent out.new) (S.faults tape.new) (O.faults out.new)) }
 

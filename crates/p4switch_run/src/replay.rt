@@ -1,32 +1,30 @@
 //! A tape is read, run and reported.
 ghost use Rattle.std.specs.Prelude.{◌≡◌, ◌≤◌, IfOk, length, All};
-ghost use Rattle.switch_spec.specs.Play.{played, played_report};
-ghost use Rattle.switch_spec.specs.ReportText.{report_text};
-ghost use Rattle.switch_spec.specs.Rows.{bridge_start};
 ghost use Rattle.switch_spec.specs.Tape.{IsRecord};
-ghost use Rattle.p4switch_run.specs.Replay.{Answers, streams};
+ghost use Rattle.p4switch_run.specs.Replay.{Answers, IsTextOf, streams};
 
 use crate::session::play_all;
 use crate::status::Status;
 use p4_types::code::NoMemory;
+use p4_types::events::Start;
 use p4_types::list::ByteList;
 use std::alloc::Global;
 use sw_edge::{Sent, Sink, Source};
 use tape_form::{Tape, TapeFault, TapeRecord};
 
 // The report's text of a run of these records.
-fn text_of(alloc: Global, items: &[TapeRecord]) -> Result<ByteList, NoMemory>
+fn text_of(alloc: Global, start: Start, items: &[TapeRecord]) -> Result<ByteList, NoMemory>
     requires each { All IsRecord items.now }
     requires number { length items.now ≤ 1000000 }
-    ensures { IfOk result (λ text. text ≡ report_text (played_report (played bridge_start items.now))) }
+    ensures { IfOk result (IsTextOf start items.now) }
 {
-    let report = play_all(alloc, items)?.finish(alloc);
+    let report = play_all(alloc, start, items)?.finish(alloc);
     tape_form::report_text(alloc, &report)
 }
 
-/// Runs the tape that the source gives over the bridge, and writes its report when all of it is made.
-pub fn replay<S: Source, O: Sink>(alloc: Global, tape: &mut S, out: &mut O) -> Status
-    ensures answers { Answers result
+/// Runs the tape that the source gives, and writes its report when all of it is made.
+pub fn replay<S: Source, O: Sink>(alloc: Global, start: Start, tape: &mut S, out: &mut O) -> Status
+    ensures answers { Answers start result
         (streams (S.left tape.old) (O.sent out.old) (S.faults tape.old) (O.faults out.old))
         (streams (S.left tape.new) (O.sent out.new) (S.faults tape.new) (O.faults out.new)) }
     ensures reads { S.faults tape.old ≤ S.faults tape.new }
@@ -39,7 +37,7 @@ pub fn replay<S: Source, O: Sink>(alloc: Global, tape: &mut S, out: &mut O) -> S
         Err(TapeFault::Fault) => return Status::ReadFault,
         Err(TapeFault::NoMemory) => return Status::NoMemory,
     };
-    let Ok(text) = text_of(alloc, tape.records()) else {
+    let Ok(text) = text_of(alloc, start, tape.records()) else {
         return Status::NoMemory;
     };
     match out.write(text.as_slice()) {

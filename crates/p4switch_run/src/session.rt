@@ -1,39 +1,32 @@
-//! A run of the bridge: calls are answered and packets carried, one after another.
-ghost use Rattle.std.specs.Prelude.{◌≡◌, ◌<◌, ◌≤◌, [], ◌∷◌, length, All, OnOk, IfOk};
-ghost use Rattle.switch_spec.specs.Bridge.{bridge_table};
-ghost use Rattle.switch_spec.specs.Control.{cause};
-ghost use Rattle.switch_spec.specs.Meaning.{key_of};
-ghost use Rattle.switch_spec.specs.Play.{begun, play, played, played_report};
-ghost use Rattle.switch_spec.specs.Rows.{bridge_start};
+//! A run in lockstep: calls are answered and packets carried, one after another.
+ghost use Rattle.std.specs.Prelude.{◌≡◌, ◌<◌, ◌≤◌, ◌+◌, ◌++◌, [], ◌∷◌, length, All, OnOk, IfOk};
+ghost use Rattle.p4v1_read.specs.Calls.{call_of};
+ghost use Rattle.switch_spec.specs.Control.{opened};
+ghost use Rattle.switch_spec.specs.Meaning.{meaning, record_of};
+ghost use Rattle.switch_spec.specs.Play.{begun, next_packet, played_report};
 ghost use Rattle.switch_spec.specs.Tape.{IsRecord};
-ghost use Rattle.p4switch_run.specs.Session.{played_of, with_refusal, with_insert, with_packet, HasRoom};
+ghost use Rattle.p4switch_run.specs.Session.{played_of, IsSession, IsHandled, Plays, IsPlayed, HasRoom};
 
-use crate::bridge::Bridge;
-use crate::journal::{Journal, Packets};
-use crate::{inserts, status_messages};
-use p4_types::bridge::BridgeInsert;
-use p4_types::calls::Reply;
-use p4_types::code::{Code, NoMemory};
-use p4_types::journal::{Entry, Report, Step, StepKind};
-use p4_types::list::{ByteList, List};
-use p4_types::records::{HitMark, Record};
+use crate::journal::Packets;
+use crate::published::Published;
+use ctl_core::Control;
+use p4_types::calls::{Call, Reply};
+use p4_types::code::NoMemory;
+use p4_types::events::Start;
+use p4_types::journal::{Entry, Report};
+use p4_types::list::List;
+use p4_types::records::Record;
 use p4_types::tape::{TapeRecord, Who};
+use p4v1_read::read_call;
 use std::alloc::Global;
 use std::marker::Model;
 
-const TABLE: u32 = 0x0200_0001;
-
-// What became of a packet.
-const SENT: u8 = 0;
-
-const MISSED: u8 = 1;
-
-/// The run so far: the bridge, how many steps were made, the calls and the packets.
+/// The run so far: the control of the switch, the events that it handed on, the calls and the packets.
 #[derive(Drop)]
 pub struct Session {
-    bridge: Bridge,
-    steps: u64,
-    journal: Journal,
+    control: Control,
+    published: Published,
+    journal: List<Entry>,
     packets: Packets,
 }
 
@@ -42,76 +35,56 @@ impl Model for Session {
 
     ghost Value = { State };
 
-    ghost view = { λ s. record { table = s.bridge; steps = s.steps; journal = s.journal; records = s.packets } };
+    ghost view = { λ s. record { core = s.control; start = s.published.start; events = s.published.events.items; journal = s.journal; records = s.packets } };
 }
 
 impl Session {
-    pub fn open(alloc: Global) -> Session
-        ensures { played_of result ≡ begun bridge_start }
+    pub fn open(alloc: Global, start: Start) -> Result<Session, NoMemory>
+        ensures played { IfOk result (λ s. played_of s ≡ begun start) }
+        ensures session { IfOk result IsSession }
     {
-        Session {
-            bridge: Bridge::open(),
-            steps: 0,
-            journal: Journal::open(alloc),
+        Ok(Session {
+            control: Control::open(alloc, &start)?,
+            published: Published::open(alloc, start),
+            journal: List::new(alloc),
             packets: Packets::open(alloc),
-        }
-    }
-
-    // Adds a call that makes no step.
-    fn refuse(
-        &mut self,
-        alloc: Global,
-        lane: u16,
-        code: Code,
-        messages: List<ByteList>,
-    ) -> Result<(), NoMemory>
-        requires lane { lane < 32 }
-        requires room { HasRoom self.old }
-        ensures { OnOk result (self.new ≡ with_refusal self.old lane code messages) }
-    {
-        let call = self.journal.count_of(lane) + 1;
-        self.journal.push(Entry {
-            lane,
-            call,
-            steps: List::new(alloc),
-            reply: Reply {
-                code,
-                messages,
-                notices: List::new(alloc),
-                steps: self.steps,
-                packet: None,
-            },
         })
     }
 
-    // Adds a call that makes an entry of the bridge.
-    fn accept(&mut self, alloc: Global, lane: u16, insert: BridgeInsert) -> Result<(), NoMemory>
+    // The reply to a lane's next call, which was read.
+    fn handle(&mut self, alloc: Global, lane: u16, call: &Call) -> Reply
         requires lane { lane < 32 }
         requires room { HasRoom self.old }
-        requires free { cause self.old.table.entries insert ≡ None }
-        ensures { OnOk result (self.new ≡ with_insert self.old lane insert) }
+        requires session { IsSession self.old }
+        ensures { IsHandled lane call.now result self.old self.new }
     {
-        let call = self.journal.count_of(lane) + 1;
-        let steps = change(alloc)?;
-        let messages = empty_message(alloc)?;
-        self.journal.push(Entry {
-            lane,
-            call,
-            steps,
-            reply: Reply {
-                code: Code::Ok,
-                messages,
-                notices: List::new(alloc),
-                steps: self.steps + 1,
-                packet: None,
-            },
-        })?;
-        self.steps += 1;
-        self.bridge.insert(insert);
-        Ok(())
+        self.control.handle(alloc, lane, call, &mut self.published)
     }
 
-    /// Answers a controller's next call.
+    // The reply to a lane's next call, for which there is no memory.
+    fn decline(&mut self, alloc: Global, lane: u16) -> Reply
+        requires lane { lane < 32 }
+        requires room { HasRoom self.old }
+        requires session { IsSession self.old }
+        ensures { (call : Call) → IsHandled lane call result self.old self.new }
+    {
+        self.control.decline(alloc, lane)
+    }
+
+    // The reply to a lane's next call.
+    fn reply(&mut self, alloc: Global, lane: u16, method: u8, message: &[u8]) -> Reply
+        requires lane { lane < 32 }
+        requires room { HasRoom self.old }
+        requires session { IsSession self.old }
+        ensures { IsHandled lane (call_of method message.now) result self.old self.new }
+    {
+        let Ok(call) = read_call(alloc, method, message) else {
+            return self.decline(alloc, lane);
+        };
+        self.handle(alloc, lane, &call)
+    }
+
+    /// Answers a controller's next call. Without memory for the journal the run cannot go on.
     pub fn call(
         &mut self,
         alloc: Global,
@@ -121,47 +94,46 @@ impl Session {
     ) -> Result<(), NoMemory>
         requires lane { lane < 32 }
         requires room { HasRoom self.old }
-        ensures { OnOk result (played_of self.new ≡ play (played_of self.old) (TapeRecord.Call lane method message.now)) }
+        requires session { IsSession self.old }
+        ensures plays { OnOk result (Plays (played_of self.old) (TapeRecord.Call lane method message.now) (played_of self.new)) }
+        ensures session { OnOk result (IsSession self.new) }
     {
-        let Some(insert) = inserts::read(alloc, method, message)? else {
-            let messages = status_messages::of_unimplemented(alloc, method)?;
-            return self.refuse(alloc, lane, Code::Unimplemented, messages);
-        };
-        let Some(cause) = self.bridge.cause(insert) else {
-            return self.accept(alloc, lane, insert);
-        };
-        let messages = status_messages::of_refused_write(alloc, cause)?;
-        self.refuse(alloc, lane, Code::Unknown, messages)
+        let before = self.published.len();
+        let reply = self.reply(alloc, lane, method, message);
+        let steps = self.published.steps_after(alloc, before)?;
+        let call = self.control.calls_of(lane);
+        self.journal.push(Entry {
+            lane,
+            call,
+            steps,
+            reply,
+        })?;
+        Ok(())
     }
 
-    // Adds a worker's packet with what became of it.
-    fn carry(
-        &mut self,
+    // The record of a worker's next packet.
+    fn outcome(
+        &self,
         alloc: Global,
         lane: u16,
-        fate: u8,
-        outputs: List<(u16, ByteList)>,
-        hits: List<HitMark>,
-    ) -> Result<(), NoMemory>
+        port: u16,
+        packet: &[u8],
+    ) -> Result<Record, NoMemory>
         requires lane { lane < 16 }
-        requires room { HasRoom self.old }
-        ensures { OnOk result (self.new ≡ with_packet self.old lane fate outputs hits) }
+        requires room { HasRoom self.now }
+        ensures { IfOk result (λ r. r ≡ record_of (Who.Worker lane) (next_packet lane (played_of self.now)) self.now.core.steps (meaning self.now.core.control port packet.now)) }
     {
-        let index = self.packets.count_of(lane) + 1;
-        let steps = self.steps;
-        self.packets.push(
-            lane,
-            Record {
-                who: Who::Worker(lane),
-                index,
-                steps,
-                fate,
-                outputs,
-                cpu: List::new(alloc),
-                digest: None,
-                hits,
-            },
-        )
+        let verdict = self.control.carry(alloc, port, packet)?;
+        Ok(Record {
+            who: Who::Worker(lane),
+            index: self.packets.count_of(lane) + 1,
+            steps: self.control.steps(),
+            fate: verdict.fate,
+            outputs: verdict.outputs,
+            cpu: verdict.cpu,
+            digest: None,
+            hits: verdict.hits,
+        })
     }
 
     /// Runs a worker's next packet.
@@ -174,22 +146,22 @@ impl Session {
     ) -> Result<(), NoMemory>
         requires lane { lane < 16 }
         requires room { HasRoom self.old }
-        ensures { OnOk result (played_of self.new ≡ play (played_of self.old) (TapeRecord.Packet lane port packet.now)) }
+        requires session { IsSession self.old }
+        ensures plays { OnOk result (Plays (played_of self.old) (TapeRecord.Packet lane port packet.now) (played_of self.new)) }
+        ensures session { OnOk result (IsSession self.new) }
     {
-        let _ = port;
-        let Some(entry) = self.bridge.find(key_of(packet)) else {
-            return self.carry(alloc, lane, MISSED, List::new(alloc), List::new(alloc));
-        };
-        let outputs = output(alloc, entry.port, packet)?;
-        let hits = hit(alloc, entry.seq)?;
-        self.carry(alloc, lane, SENT, outputs, hits)
+        let outcome = self.outcome(alloc, lane, port, packet)?;
+        self.packets.push(lane, outcome)?;
+        Ok(())
     }
 
     // Takes the next record of the tape.
     fn take(&mut self, alloc: Global, item: &TapeRecord) -> Result<(), NoMemory>
         requires item { IsRecord item.now }
         requires room { HasRoom self.old }
-        ensures { OnOk result (played_of self.new ≡ play (played_of self.old) item.now) }
+        requires session { IsSession self.old }
+        ensures plays { OnOk result (Plays (played_of self.old) item.now (played_of self.new)) }
+        ensures session { OnOk result (IsSession self.new) }
     {
         match item {
             TapeRecord::Call {
@@ -208,7 +180,7 @@ impl Session {
         ensures { result ≡ played_report (played_of self) }
     {
         Report {
-            journal: self.journal.into_list(),
+            journal: self.journal,
             sent: List::new(alloc),
             records: self.packets.into_list(),
             counts: List::new(alloc),
@@ -218,62 +190,14 @@ impl Session {
 }
 
 /// The run of these records, in their order.
-pub fn play_all(alloc: Global, items: &[TapeRecord]) -> Result<Session, NoMemory>
+pub fn play_all(alloc: Global, start: Start, items: &[TapeRecord]) -> Result<Session, NoMemory>
     requires each { All IsRecord items.now }
     requires number { length items.now ≤ 1000000 }
-    ensures { IfOk result (λ session. played_of session ≡ played bridge_start items.now) }
+    ensures { IfOk result (λ session. IsPlayed start items.now (played_of session)) }
 {
-    let mut session = Session::open(alloc);
+    let mut session = Session::open(alloc, start)?;
     for item in items {
         session.take(alloc, item)?;
     }
     Ok(session)
-}
-
-// What a packet looks up: its first 48 bits, or 0 where it is too short for its header.
-fn key_of(packet: &[u8]) -> u64
-    ensures { result ≡ key_of packet.now }
-{
-    if packet.len() < 14 {
-        0
-    } else {
-        inserts::number(&packet[..6])
-    }
-}
-
-fn output(alloc: Global, port: u16, packet: &[u8]) -> Result<List<(u16, ByteList)>, NoMemory>
-    ensures { IfOk result (λ outputs. outputs ≡ (port, packet.now) ∷ []) }
-{
-    let mut outputs = List::new(alloc);
-    outputs.push((port, List::from_vec(Vec::from_slice(alloc, packet)?)))?;
-    Ok(outputs)
-}
-
-fn hit(alloc: Global, seq: u64) -> Result<List<HitMark>, NoMemory>
-    ensures { IfOk result (λ hits. hits ≡ HitMark.Entry bridge_table seq ∷ []) }
-{
-    let mut hits = List::new(alloc);
-    hits.push(HitMark::Entry { table: TABLE, seq })?;
-    Ok(hits)
-}
-
-// One step that changes one entry.
-fn change(alloc: Global) -> Result<List<Step>, NoMemory>
-    ensures { IfOk result (λ steps. steps ≡ record { kind = StepKind.Change; changes = 1 } ∷ []) }
-{
-    let mut steps = List::new(alloc);
-    steps.push(Step {
-        kind: StepKind::Change,
-        changes: 1,
-    })?;
-    Ok(steps)
-}
-
-// One message of no bytes.
-fn empty_message(alloc: Global) -> Result<List<ByteList>, NoMemory>
-    ensures { IfOk result (λ messages. messages ≡ [] ∷ []) }
-{
-    let mut messages = List::new(alloc);
-    messages.push(List::new(alloc))?;
-    Ok(messages)
 }

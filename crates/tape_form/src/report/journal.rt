@@ -3,19 +3,33 @@ ghost use Rattle.std.specs.Prelude.{◌≡◌, ◌+◌, ◌++◌, ℕ, List, IfO
 ghost use Rattle.std.specs.List.{flat_map};
 ghost use Rattle.switch_spec.specs.ReportText.{notice_line, reply_line, step_line, step_lines, entry_lines, journal_lines};
 
-use crate::report::words::{kind_name, push_list};
+use crate::report::words::{kind_name, push_hex, push_list};
 use p4_types::calls::Notice;
 use p4_types::journal::{Entry, Step};
+use p4v1_wire::write_message;
 use std::alloc::{AllocError, Global};
 
-/// Adds the lines of a call's notices. There is no notice yet that could be one of them.
-fn push_notices(out: &mut String, notices: &[Notice]) -> Result<(), AllocError>
+/// Adds the line of a notice.
+fn push_notice(alloc: Global, out: &mut String, notice: &Notice) -> Result<(), AllocError>
+    ensures { OnOk result (string_bytes out.new ≡ string_bytes out.old ++ notice_line notice.now) }
+{
+    let Ok(message) = write_message(alloc, &notice.message) else {
+        return Err(AllocError);
+    };
+    let lane = notice.lane;
+    write!(out, "notice {lane} ")?;
+    push_hex(alloc, out, message.as_slice())?;
+    out.push_str("\n")
+}
+
+/// Adds the lines of a call's notices.
+fn push_notices(alloc: Global, out: &mut String, notices: &[Notice]) -> Result<(), AllocError>
     ensures { OnOk result (string_bytes out.new ≡ string_bytes out.old ++ flat_map notice_line notices.now) }
 {
-    match notices {
-        [] => out.push_str(""),
-        [notice, ..] => match notice.message {},
+    for notice in notices {
+        push_notice(alloc, out, notice)?;
     }
+    Ok(())
 }
 
 /// Adds the line of the step of this number, of the lane's call.
@@ -80,7 +94,7 @@ fn push_entry(
     ensures count { IfOk result (λ after. after ≡ before + length entry.now.steps) }
 {
     let after = push_steps(out, before, entry.lane, entry.call, entry.steps.as_slice())?;
-    push_notices(out, entry.reply.notices.as_slice())?;
+    push_notices(alloc, out, entry.reply.notices.as_slice())?;
     push_reply(alloc, out, entry)?;
     Ok(after)
 }

@@ -1,11 +1,10 @@
-use Rattle.std.proofs.Common.{◌≡◌, take, fold}
-use Rattle.switch_spec.specs.Play.{begun, play}
-use Rattle.switch_spec.specs.Rows.{bridge_start}
-use Rattle.p4switch_run.specs.Session.{played_of, IsWithin}
+use Rattle.std.proofs.Common.{take}
+use Rattle.p4switch_run.specs.Session.{played_of, IsSession, IsPlayed, IsWithin}
 use Rattle.p4switch_run.proofs.session.play_all.Given as goal
 
 abbrev pub invariant-loop-item : goal.invariant-loop-item
 invariant-loop-item l = record {
-  so_far : played_of l.session ≡ fold play (begun bridge_start) (take l.item-index l.items);
+  so_far : IsPlayed l.fn.start (take l.item-index l.items) (played_of l.session);
   within : IsWithin l.item-index (played_of l.session);
+  session : IsSession l.session;
 }

@@ -1,30 +1,33 @@
-use Rattle.std.proofs.Common.{ℕ, List, sym, ap, ◌∙◌}
-use Rattle.p4_types.specs.declared.code.Code.TheVariants.{Unimplemented, Unknown}
-use Rattle.switch_spec.specs.Control.{cause}
-use Rattle.p4switch_run.specs.Session.{State, played_of, with_refusal}
-use Rattle.p4switch_run.proofs.SessionLemmas.{on_ok, play_unserved, play_refused, play_made}
+use Rattle.std.proofs.Common.{length, ap, ◌∙◌, sym, subst}
+use Rattle.p4v1_read.specs.Calls.{call_of}
+use Rattle.p4switch_run.specs.Session.{State, IsHandled}
+use Rattle.p4switch_run.proofs.SessionLemmas.{call_turn}
 use Rattle.p4switch_run.proofs.session.Session.call.Goals as goal
 
-pub returns-in_default : goal.returns-in_default
-returns-in_default c =
-    on_ok _ _ c.refuse.result (λ same.
-    ap played_of (same ∙ ap (λ (m : List (List ℕ)). with_refusal c.args.self.now c.args.lane Unimplemented m) c.in_ok-messages.ensures)
-    ∙ sym (play_unserved c.args.self.now c.args.lane c.args.method c.args.message.now (sym c.in_ok-insert.ensures ∙ c.in_default.is)))
-    c.refuse.ensures
+pub returns-clause-plays : goal.returns-clause-plays
+returns-clause-plays c =
+    let mid : State = record {
+      core = c.self-2.inside.control;
+      start = c.self-2.inside.published.start;
+      events = c.self-2.inside.published.events.items;
+      journal = c.self-2.inside.journal;
+      records = c.self-2.inside.packets;
+    } in
+    let P : State → Type 0 = λ s. IsHandled c.args.lane (call_of c.args.method c.args.message.now) c.reply-reply.result c.args.self.now s in
+    (call_turn c.args.lane c.args.method c.args.message.now c.reply-reply.result c.args.self.now mid c.calls_of-call.result c.len-before.result c.in_ok-steps.steps c.push.new.self
+    c.requires.session c.requires.lane (subst P (sym c.self-2.view_is) c.reply-reply.ensures) c.calls_of-call.ensures
+    (c.len-before.ensures ∙ ap (λ (s : State). length s.events) c.self.view_is) c.in_ok-steps.ensures c.in_ok-push.ensures.ok).0
 
-pub returns-in_default-cause : goal.returns-in_default-cause
-returns-in_default-cause c =
-    let free = c.in_default-cause.ensures ∙ ap (λ (s : State). cause s.table.entries c.in-Some.insert) c.self.view_is in
-    on_ok _ _ c.accept.result (λ same.
-    ap played_of same
-    ∙ sym (play_made c.args.self.now c.args.lane c.args.method c.args.message.now c.in-Some.insert (sym c.in_ok-insert.ensures ∙ c.in-Some.is) (sym free)))
-    c.accept.ensures
-
-pub returns : goal.returns
-returns c =
-    let refused = c.in-Some-cause.ensures ∙ ap (λ (s : State). cause s.table.entries c.in-Some.insert) c.self.view_is in
-    on_ok _ _ c.refuse-2.result (λ same.
-    ap played_of (same ∙ ap (λ (m : List (List ℕ)). with_refusal c.args.self.now c.args.lane Unknown m) c.in_ok-messages-2.ensures)
-    ∙ sym (play_refused c.args.self.now c.args.lane c.args.method c.args.message.now c.in-Some.insert c.in-Some-cause.cause
-    (sym c.in_ok-insert.ensures ∙ c.in-Some.is) (sym refused)))
-    c.refuse-2.ensures
+pub returns-clause-session : goal.returns-clause-session
+returns-clause-session c =
+    let mid : State = record {
+      core = c.self-2.inside.control;
+      start = c.self-2.inside.published.start;
+      events = c.self-2.inside.published.events.items;
+      journal = c.self-2.inside.journal;
+      records = c.self-2.inside.packets;
+    } in
+    let P : State → Type 0 = λ s. IsHandled c.args.lane (call_of c.args.method c.args.message.now) c.reply-reply.result c.args.self.now s in
+    (call_turn c.args.lane c.args.method c.args.message.now c.reply-reply.result c.args.self.now mid c.calls_of-call.result c.len-before.result c.in_ok-steps.steps c.push.new.self
+    c.requires.session c.requires.lane (subst P (sym c.self-2.view_is) c.reply-reply.ensures) c.calls_of-call.ensures
+    (c.len-before.ensures ∙ ap (λ (s : State). length s.events) c.self.view_is) c.in_ok-steps.ensures c.in_ok-push.ensures.ok).1

@@ -1,0 +1,5 @@
+pub mod BridgeLemmas
+pub mod Handling
+pub mod Leading
+pub mod Numbering
+pub mod Tables

@@ -1,0 +1,44 @@
+-- The control of the switch with its counts, and what a call makes of it.
+use Rattle.std.specs.Prelude.{◌≡◌, ℕ, ◌+◌, Bool, true, false, List, [], ◌++◌, length, None}
+use Rattle.p4_types.specs.declared.calls.Reply.{Reply}
+use Rattle.p4_types.specs.declared.code.Code.TheVariants as codes
+use Rattle.p4_types.specs.declared.events.Event.{Event}
+use Rattle.switch_spec.specs.Answer.{Answer}
+use Rattle.switch_spec.specs.Control.{Control, applied}
+use Rattle.switch_spec.specs.History.{is_unavailable}
+
+pub record Core : Type 0 where
+  pub control : Control
+  -- how many steps there were
+  pub steps : ℕ
+  -- how many calls each caller has made
+  pub calls : List ℕ
+
+-- the reply of an answer after n steps; each event of an answer is a step
+abbrev pub replied : ℕ → Answer → Reply
+replied n a = record { code = a.code; messages = a.messages; notices = a.notices; steps = n + length a.events; packet = a.packet }
+
+-- the reply of a call for which there was no memory
+abbrev pub without_memory : ℕ → Reply
+without_memory n = record { code = codes.Unavailable; messages = []; notices = []; steps = n; packet = None }
+
+-- the call is answered, and its events took effect and were handed on
+pub record IsAnswered (old : Control) (steps : ℕ) (given : List Event) (a : Answer) (reply : Reply) (new : Control) (now : List Event) : Type 0 where
+  pub reply_is : reply ≡ replied steps a
+  pub control : new ≡ applied old a.events
+  pub handed : now ≡ given ++ a.events
+
+-- there was no memory for the call: the state is as it was
+pub record IsRefused (old : Control) (steps : ℕ) (given : List Event) (reply : Reply) (new : Control) (now : List Event) : Type 0 where
+  pub reply_is : reply ≡ without_memory steps
+  pub control : new ≡ old
+  pub handed : now ≡ given
+
+-- by whether there was no memory
+abbrev pub HandledBy : Bool → Control → ℕ → List Event → Answer → Reply → Control → List Event → Type 0
+HandledBy true old steps given a reply new now = IsRefused old steps given reply new now
+HandledBy false old steps given a reply new now = IsAnswered old steps given a reply new now
+
+-- what a call makes of the state and of the events that were handed on, beside its reply
+abbrev pub Handled : Control → ℕ → List Event → Answer → Reply → Control → List Event → Type 0
+Handled old steps given a reply new now = HandledBy (is_unavailable reply.code) old steps given a reply new now

@@ -1,0 +1,69 @@
+-- The control state, as the part that writes change and the part that they leave.
+use Rattle.std.specs.Prelude.{ℕ, ◌<◌, ◌≤◌, ◌+◌, ◌-◌, ◌^◌, false, if◌then◌else◌, List, length, map, All, Option, Some, None, Result}
+use Rattle.p4_types.specs.declared.code.Cause.{Cause}
+use Rattle.p4_types.specs.declared.code.Code.{Code}
+use Rattle.p4_types.specs.declared.messages.Entity.{Entity}
+use Rattle.switch_spec.specs.Reading.{read_unless, first_of, entity_refusal}
+use Rattle.p4_types.specs.declared.info.Info.{Info}
+use Rattle.p4_types.specs.declared.table.Change.{Change}
+use Rattle.p4_types.specs.declared.table.DefaultAction.{DefaultAction}
+use Rattle.p4_types.specs.declared.table.Entry.{Entry}
+use Rattle.p4_types.specs.declared.table.EntryChange.{EntryChange}
+use Rattle.p4_types.specs.declared.table.Room.{Room}
+use Rattle.p4_types.specs.declared.info.Table.{Table}
+use Rattle.switch_spec.specs.Entries.{new_entry, inserted, slots_drawn}
+use Rattle.ctl_core.specs.declared.fixed.Fixed.{Fixed}
+use Rattle.ctl_core.specs.declared.fixed.Program.{Program}
+use Rattle.p4_types.specs.declared.events.Start.{Start}
+use Rattle.switch_spec.specs.Bridge.{bridge_info, bridge_defaults}
+use Rattle.switch_spec.specs.Control.{Control, Plane}
+use Rattle.table_store.specs.declared.error.StoreError.{StoreError}
+use Rattle.table_store.specs.declared.error.StoreError.TheVariants as errors
+
+-- what writes change
+pub record Written : Type 0 where
+  pub entries : List Entry
+  pub changed : List DefaultAction
+  pub next : ℕ
+  pub next_slot : ℕ
+
+-- the plane of a program with what is written
+abbrev pub plane_of : Option Program → Written → Option Plane
+plane_of None w = None
+plane_of (Some p) w = Some (record { info = p.info; entries = w.entries; changed = w.changed; program = p.defaults })
+
+abbrev pub control_of : Fixed → Written → Control
+control_of f w = record { device = f.device; cpu = f.cpu; rows = f.rows; plane = plane_of f.program w; next = w.next; next_slot = w.next_slot; closed = false }
+
+-- every entry has drawn its number, and there are no more numbers and slots than there are
+pub record IsNumbered (w : Written) : Type 0 where
+  pub drawn : All (λ entry. entry.seq < w.next) w.entries
+  pub numbers : w.next ≤ 2 ^ 64 - 1
+  pub slots : w.next_slot ≤ 1048576
+
+-- what is left to be drawn
+abbrev pub room_in : ℕ → Written → Room
+room_in rows w = record { rows = rows - length w.entries; slots = 1048576 - w.next_slot; numbers = 2 ^ 64 - 1 - w.next }
+
+-- with an entry more
+abbrev pub with_insert : Table → ℕ → EntryChange → Written → Written
+with_insert table rows change w = record w {
+  entries = inserted (new_entry table (room_in rows w) change) w.entries;
+  next = w.next + 1;
+  next_slot = w.next_slot + slots_drawn table;
+}
+
+-- an error that is no want of memory
+abbrev pub IsRefusal : StoreError → Type 0
+IsRefusal errors.NoMemory = ⊥
+IsRefusal (errors.Refused cause) = Unit {0}
+
+-- the program of a switch that starts
+abbrev pub program_of : Start → Option Program
+program_of start = if start.bridge then Some (record { info = bridge_info; defaults = bridge_defaults }) else None
+
+-- what a Read answers over a program with what is written
+abbrev pub read_by : Program → Written → List (Option Entity) → Result (List (List ℕ)) Code
+read_by p w list =
+    let plane : Plane = record { info = p.info; entries = w.entries; changed = w.changed; program = p.defaults } in
+    read_unless (first_of (map (entity_refusal p.info) list)) plane list

@@ -1,0 +1,203 @@
+//! The control of the switch: calls are answered, one after another.
+ghost use Rattle.std.specs.Prelude.{◌≡◌, ◌<◌, ◌≤◌, ◌+◌, ◌-◌, ◌^◌, false, length, IfOk, replicate, slice_index, set};
+ghost use Rattle.std.specs.Prelude as spec;
+ghost use Rattle.p4_types.specs.declared.events.Event.{Event};
+ghost use Rattle.switch_spec.specs.Answer.{answer_to};
+ghost use Rattle.switch_spec.specs.Control.{opened, applied, Legal};
+ghost use Rattle.switch_spec.specs.History.{is_unavailable};
+ghost use Rattle.ctl_core.specs.Prepared.{Leads, answer_of};
+ghost use Rattle.ctl_core.specs.State.{control_of, program_of};
+ghost use Rattle.switch_spec.specs.Meaning.{meaning};
+ghost use Rattle.ctl_core.specs.Core.{Handled, replied, without_memory};
+ghost use Rattle.ctl_core.specs.Packets.{verdict_of};
+
+use crate::fixed::{Fixed, Program};
+use crate::packets::Verdict;
+use crate::prepared::Prepared;
+use crate::press::Press;
+use crate::written::Written;
+use crate::{bridge, calls, packets};
+use p4_types::calls::{Call, Reply};
+use p4_types::code::{Code, NoMemory};
+use p4_types::events::Start;
+use p4_types::list::List;
+use std::alloc::Global;
+use std::marker::Model;
+
+/// The control of the switch. A contract sees its control state, how many steps there were, and how many
+/// calls each caller has made.
+#[derive(Drop)]
+pub struct Control {
+    fixed: Fixed,
+    written: Written,
+    steps: u64,
+    calls: [u32; 32],
+}
+
+impl Model for Control {
+    ghost use Rattle.ctl_core.specs.Core.{Core};
+    ghost use Rattle.ctl_core.specs.State.{control_of};
+
+    ghost Value = { Core };
+
+    ghost view = { λ c. record { control = control_of c.fixed c.written; steps = c.steps; calls = c.calls } };
+}
+
+// The reply to a call for which there was no memory.
+fn without_memory(alloc: Global, steps: u64) -> Reply
+    ensures { result ≡ without_memory steps }
+{
+    Reply {
+        code: Code::Unavailable,
+        messages: List::new(alloc),
+        notices: List::new(alloc),
+        steps,
+        packet: None,
+    }
+}
+
+// Takes what will be written.
+fn take(fixed: &Fixed, written: &mut Written, draft: Option<Written>)
+    ensures { (list : spec.List Event) → Leads fixed.now (control_of fixed.now written.old) list draft → control_of fixed.now written.new ≡ applied (control_of fixed.now written.old) list }
+{
+    let _ = fixed;
+    if let Some(draft) = draft {
+        *written = draft;
+    }
+}
+
+// Hands the events of an answer on, and makes it take effect.
+fn complete<P: Press>(
+    alloc: Global,
+    fixed: &Fixed,
+    written: &mut Written,
+    steps: u64,
+    prepared: Prepared,
+    press: &mut P,
+) -> Reply
+    requires steps { steps < 2 ^ 63 }
+    requires few { length prepared.events ≤ 4096 }
+    requires available { is_unavailable prepared.code ≡ false }
+    requires state { P.state press.old ≡ control_of fixed.now written.old }
+    requires may { Legal (control_of fixed.now written.old) prepared.events }
+    requires leads { Leads fixed.now (control_of fixed.now written.old) prepared.events prepared.written }
+    ensures handled { Handled (control_of fixed.now written.old) steps (P.given press.old) (answer_of prepared) result (control_of fixed.now written.new) (P.given press.new) }
+    ensures state { P.state press.new ≡ control_of fixed.now written.new }
+{
+    let steps_after = steps + prepared.events.len() as u64;
+    match press.push(prepared.events) {
+        Err(_) => without_memory(alloc, steps),
+        Ok(()) => {
+            take(fixed, written, prepared.written);
+            Reply {
+                code: prepared.code,
+                messages: prepared.messages,
+                notices: List::new(alloc),
+                steps: steps_after,
+                packet: None,
+            }
+        }
+    }
+}
+
+fn program(alloc: Global, start: &Start) -> Result<Option<Program>, NoMemory>
+    ensures { IfOk result (λ p. p ≡ program_of start.now) }
+{
+    if start.bridge {
+        Ok(Some(bridge::program(alloc)?))
+    } else {
+        Ok(None)
+    }
+}
+
+impl Control {
+    /// The control of a switch that starts.
+    pub fn open(alloc: Global, start: &Start) -> Result<Control, NoMemory>
+        ensures control { IfOk result (λ c. c.control ≡ opened start.now) }
+        ensures steps { IfOk result (λ c. c.steps ≡ 0) }
+        ensures calls { IfOk result (λ c. c.calls ≡ replicate 32 0) }
+    {
+        Ok(Control {
+            fixed: Fixed {
+                device: start.device,
+                cpu: start.cpu,
+                rows: start.rows,
+                program: program(alloc, start)?,
+            },
+            written: Written::open(alloc),
+            steps: 0,
+            calls: [0; 32],
+        })
+    }
+
+    /// Answers a call of a caller, a controller's lane below 32, and hands the events of its answer to the
+    /// press. A call for which there is no memory is answered UNAVAILABLE: it makes no step.
+    pub fn handle<P: Press>(
+        &mut self,
+        alloc: Global,
+        caller: u16,
+        call: &Call,
+        press: &mut P,
+    ) -> Reply
+        requires caller { caller < 32 }
+        requires calls { slice_index self.old.calls caller < 2 ^ 32 - 1 }
+        requires steps { self.old.steps < 2 ^ 63 }
+        requires state { P.state press.old ≡ self.old.control }
+        ensures handled { Handled self.old.control self.old.steps (P.given press.old) (answer_to self.old.control caller (slice_index self.old.calls caller + 1) call.now) result self.new.control (P.given press.new) }
+        ensures steps { self.new.steps ≡ result.steps }
+        ensures counted { self.new.calls ≡ set self.old.calls caller (slice_index self.old.calls caller + 1) }
+        ensures state { P.state press.new ≡ self.new.control }
+    {
+        let number = self.calls[caller as usize] + 1;
+        self.calls[caller as usize] = number;
+        let prepared = calls::prepare(alloc, &self.fixed, &self.written, caller, number, call);
+        let reply = match prepared {
+            Ok(prepared) => complete(
+                alloc,
+                &self.fixed,
+                &mut self.written,
+                self.steps,
+                prepared,
+                press,
+            ),
+            Err(NoMemory) => without_memory(alloc, self.steps),
+        };
+        self.steps = reply.steps;
+        reply
+    }
+
+    /// Answers UNAVAILABLE to a caller whose call could not be read for want of memory.
+    pub fn decline(&mut self, alloc: Global, caller: u16) -> Reply
+        requires caller { caller < 32 }
+        requires calls { slice_index self.old.calls caller < 2 ^ 32 - 1 }
+        ensures refused { result ≡ without_memory self.old.steps }
+        ensures control { self.new.control ≡ self.old.control }
+        ensures steps { self.new.steps ≡ self.old.steps }
+        ensures counted { self.new.calls ≡ set self.old.calls caller (slice_index self.old.calls caller + 1) }
+    {
+        self.calls[caller as usize] += 1;
+        without_memory(alloc, self.steps)
+    }
+
+    /// How many calls a caller has made.
+    pub fn calls_of(&self, caller: u16) -> u32
+        requires { caller < 32 }
+        ensures { result ≡ slice_index self.now.calls caller }
+    {
+        self.calls[caller as usize]
+    }
+
+    /// How many steps there were.
+    pub fn steps(&self) -> u64
+        ensures { result ≡ self.now.steps }
+    {
+        self.steps
+    }
+
+    /// What becomes of a packet that enters at a port.
+    pub fn carry(&self, alloc: Global, port: u16, packet: &[u8]) -> Result<Verdict, NoMemory>
+        ensures { IfOk result (λ v. verdict_of v ≡ meaning self.now.control port packet.now) }
+    {
+        packets::carry(alloc, &self.fixed, &self.written, port, packet)
+    }
+}

@@ -1,0 +1,17 @@
+//! The control of the switch: its state, and the answers to calls.
+#![tactic(auto)]
+
+mod bridge;
+mod calls;
+mod control;
+mod fixed;
+mod messages;
+mod packets;
+mod prepared;
+mod press;
+mod writes;
+mod written;
+
+pub use control::Control;
+pub use packets::Verdict;
+pub use press::Press;
