@@ -8,6 +8,14 @@ mod edge;
 #[cfg(test)]
 mod fields;
 #[cfg(test)]
+mod infos;
+#[cfg(test)]
 mod messages;
+#[cfg(test)]
+mod roles;
+#[cfg(test)]
+mod served;
+#[cfg(test)]
+mod tables;
 #[cfg(test)]
 mod vectors;
