@@ -2,3 +2,4 @@ pub mod Sameness
 pub mod Positions
 pub mod Kept
 pub mod Validity
+pub mod Back

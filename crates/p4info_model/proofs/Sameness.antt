@@ -31,7 +31,7 @@ unique_length f e c same (x ∷ xs) =
     rw (list_any_same (c x) (λ y. e (f x) (f y)) (same x) xs, ← list_any_map (e (f x)) f xs)
     (kept_length (is_member e (map f xs) (f x)) x (unique_keys c xs) (f x) (unique_keys e (map f xs)) (unique_length f e c same xs))
 
-map_itself : {A : Type 0} (xs : List A) → map (λ x. x) xs ≡ xs
+pub map_itself : {A : Type 0} (xs : List A) → map (λ x. x) xs ≡ xs
 map_itself [] = refl
 map_itself (x ∷ xs) = ap (λ ys. x ∷ ys) (map_itself xs)
 

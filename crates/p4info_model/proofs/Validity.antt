@@ -26,7 +26,7 @@ use Rattle.p4info_model.specs.Valid.{IsWidth, AreApart, IsValidTable, IsValidAct
 use Rattle.p4info_model.proofs.Sameness.{list_any_map}
 use Rattle.p4info_model.proofs.Kept.{neither, each, each_map, list_any_flat, implied, there, numbers_kept}
 
-three : (a b c : Bool) → (a || b || c) ≡ false → (a ≡ false) × (b ≡ false) × (c ≡ false)
+pub three : (a b c : Bool) → (a || b || c) ≡ false → (a ≡ false) × (b ≡ false) × (c ≡ false)
 three true b c e = absurd cc
 three false true c e = absurd cc
 three false false c e = (refl, refl, e)
@@ -37,7 +37,7 @@ four false true c d e = absurd cc
 four false false true d e = absurd cc
 four false false false d e = (refl, refl, refl, e)
 
-six : (a b c d f g : Bool) → (a || b || c || d || f || g) ≡ false → (a ≡ false) × (b ≡ false) × (c ≡ false) × (d ≡ false) × (f ≡ false) × (g ≡ false)
+pub six : (a b c d f g : Bool) → (a || b || c || d || f || g) ≡ false → (a ≡ false) × (b ≡ false) × (c ≡ false) × (d ≡ false) × (f ≡ false) × (g ≡ false)
 six true b c d f g e = absurd cc
 six false true c d f g e = absurd cc
 six false false true d f g e = absurd cc
@@ -211,7 +211,7 @@ header_valid h w i l b = record {
 }
 
 -- a test of each that no item fails
-none_fails : {X : Type 0} (bad : X → Bool) (xs : List X) → list_any bad xs ≡ false → All (λ x. bad x ≡ false) xs
+pub none_fails : {X : Type 0} (bad : X → Bool) (xs : List X) → list_any bad xs ≡ false → All (λ x. bad x ≡ false) xs
 none_fails bad xs e = each bad (λ x. bad x ≡ false) (λ x h. h) xs e
 
 -- the parts of the rules
@@ -292,7 +292,7 @@ headers_pass m e6 e7 e8 e9 =
     All-map IsValidHeader header_of m.controller_packet_metadata (λ k d l. header_valid (get_or m.controller_packet_metadata k d) (widths k d l) (ids k d l) (few k d l) (whole k d l))
 
 -- where no rule is the first that is broken, none is broken
-none_broken : (a b c d e f g h : Bool) → cond {A = Option ℕ} a (Some 2) (cond b (Some 3) (cond c (Some 4) (cond d (Some 5) (cond e (Some 6) (cond f (Some 7) (cond g (Some 8) (cond h (Some 9) None))))))) ≡ None → (d ≡ false) × (e ≡ false) × (f ≡ false) × (g ≡ false) × (h ≡ false)
+pub none_broken : (a b c d e f g h : Bool) → cond {A = Option ℕ} a (Some 2) (cond b (Some 3) (cond c (Some 4) (cond d (Some 5) (cond e (Some 6) (cond f (Some 7) (cond g (Some 8) (cond h (Some 9) None))))))) ≡ None → (d ≡ false) × (e ≡ false) × (f ≡ false) × (g ≡ false) × (h ≡ false)
 none_broken true b c d e f g h n = absurd cc
 none_broken false true c d e f g h n = absurd cc
 none_broken false false true d e f g h n = absurd cc

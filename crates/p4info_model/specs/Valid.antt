@@ -1,5 +1,5 @@
 -- What a value of the type `P4Info` keeps of the rules.
-use Rattle.std.specs.Prelude.{ℕ, ◌≤◌, ◌==◌, ◌%◌, ◌≡◌, List, All, length, map, IfSome, IsSome, IsTrue, nat_eq, sum_by, None}
+use Rattle.std.specs.Prelude.{ℕ, ◌≤◌, ◌<◌, ◌^◌, ◌==◌, ◌%◌, ◌≡◌, List, All, length, map, IfSome, IsSome, IsTrue, nat_eq, sum_by, None}
 use Rattle.std.specs.List.{IsDistinct, list_any}
 use Rattle.p4_types.specs.declared.info.Action.{Action}
 use Rattle.p4_types.specs.declared.info.ActionProfile.{ActionProfile}
@@ -73,8 +73,16 @@ pub record IsIndexOf (info : Info) (index : Index) : Type 0 where
 abbrev pub IsMade : Info → Type 0
 IsMade info = (m : message.P4Info) × (flaw m ≡ None) × (info ≡ info_of m)
 
+-- sizes are numbers of an int64, and those of groups numbers of an int32
+pub record AreSizesSmall (info : Info) : Type 0 where
+  pub tables : All (λ t. t.size < 2 ^ 63) info.tables
+  pub profiles : All (λ p. p.size < 2 ^ 63) info.action_profiles
+  pub groups : All (λ p. p.max_group_size < 2 ^ 31) info.action_profiles
+  pub counters : All (λ c. c.size < 2 ^ 63) info.counters
+
 -- the index of a valid P4Info
 pub record IsKept (info : Info) (index : Index) : Type 0 where
   pub made : IsMade info
   pub valid : IsValid info
+  pub sizes : AreSizesSmall info
   pub places : IsIndexOf info index

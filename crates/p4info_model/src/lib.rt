@@ -13,7 +13,9 @@ mod repeats;
 mod resolve;
 mod rules;
 mod valid;
+mod write;
 
 pub use flaw::InfoFault;
 pub use read::read_info;
 pub use valid::{InfoError, P4Info};
+pub use write::write_info;

@@ -1,5 +1,5 @@
 //! What the numbers of a P4Info stand for.
-ghost use Rattle.std.specs.Prelude.{◌≡◌};
+ghost use Rattle.std.specs.Prelude.{◌≡◌, ◌<◌, ◌^◌, IfSome};
 ghost use Rattle.p4info_model.specs.Numbers.{width_of, size_of, kind_of, scope_of, named};
 
 use p4_types::info::{MatchKind, Scope};
@@ -15,7 +15,8 @@ pub(crate) fn width_of(bits: i32) -> Option<u32>
 }
 
 pub(crate) fn size_of(number: i64) -> Option<u64>
-    ensures { result ≡ size_of number }
+    ensures size { result ≡ size_of number }
+    ensures small { IfSome result (λ size. size < 2 ^ 63) }
 {
     if number < 0 {
         return None;
@@ -24,7 +25,8 @@ pub(crate) fn size_of(number: i64) -> Option<u64>
 }
 
 pub(crate) fn small_size_of(number: i32) -> Option<u32>
-    ensures { result ≡ size_of number }
+    ensures size { result ≡ size_of number }
+    ensures small { IfSome result (λ size. size < 2 ^ 31) }
 {
     if number < 0 {
         return None;

@@ -1,6 +1,7 @@
 //! The objects of a P4Info from its message.
-ghost use Rattle.std.specs.Prelude.{◌≡◌, map, IfOk};
+ghost use Rattle.std.specs.Prelude.{◌≡◌, ◌<◌, ◌^◌, All, map, IfOk};
 ghost use Rattle.p4info_model.specs.Objects.{preamble_of};
+ghost use Rattle.p4info_model.specs.Valid.{AreSizesSmall};
 ghost use Rattle.p4info_model.specs.Resolved.{field_of, ref_of, table_of, param_of, action_of, profile_of, unit_of, counter_of, direct_counter_of, header_field_of, header_of, carried, digest_of, info_of};
 
 use crate::numbers;
@@ -15,12 +16,16 @@ use std::alloc::Global;
 trait Resolve<T> {
     ghost meaning: { Self → T };
 
+    ghost sizes: { T → Type 0 };
+
     fn resolve(self, alloc: Global) -> Result<T, NoMemory>
-        ensures { IfOk result (λ object. object ≡ meaning self) };
+        ensures meaning { IfOk result (λ object. object ≡ meaning self) }
+        ensures sizes { IfOk result sizes };
 }
 
 fn all<M: Resolve<T> + Drop, T: Drop>(alloc: Global, messages: List<M>) -> Result<List<T>, NoMemory>
-    ensures { IfOk result (λ objects. objects ≡ map M.meaning messages) }
+    ensures meaning { IfOk result (λ objects. objects ≡ map M.meaning messages) }
+    ensures sizes { IfOk result (All M.sizes) }
 {
     let mut objects = List::new(alloc);
     for message in messages.into_vec() {
@@ -46,6 +51,8 @@ fn preamble_of(alloc: Global, given: Option<Preamble>) -> Preamble
 impl Resolve<info::MatchField> for p4info::MatchField {
     ghost meaning = { field_of };
 
+    ghost sizes = { λ _. Unit {0} };
+
     fn resolve(self, _: Global) -> Result<info::MatchField, NoMemory> {
         Ok(info::MatchField {
             id: self.id,
@@ -59,6 +66,8 @@ impl Resolve<info::MatchField> for p4info::MatchField {
 impl Resolve<info::ActionRef> for p4info::ActionRef {
     ghost meaning = { ref_of };
 
+    ghost sizes = { λ _. Unit {0} };
+
     fn resolve(self, _: Global) -> Result<info::ActionRef, NoMemory> {
         Ok(info::ActionRef {
             id: self.id,
@@ -69,6 +78,8 @@ impl Resolve<info::ActionRef> for p4info::ActionRef {
 
 impl Resolve<info::Table> for p4info::Table {
     ghost meaning = { table_of };
+
+    ghost sizes = { λ t. t.size < 2 ^ 63 };
 
     fn resolve(self, alloc: Global) -> Result<info::Table, NoMemory> {
         Ok(info::Table {
@@ -88,6 +99,8 @@ impl Resolve<info::Table> for p4info::Table {
 impl Resolve<info::Param> for p4info::Param {
     ghost meaning = { param_of };
 
+    ghost sizes = { λ _. Unit {0} };
+
     fn resolve(self, _: Global) -> Result<info::Param, NoMemory> {
         Ok(info::Param {
             id: self.id,
@@ -100,6 +113,8 @@ impl Resolve<info::Param> for p4info::Param {
 impl Resolve<info::Action> for p4info::Action {
     ghost meaning = { action_of };
 
+    ghost sizes = { λ _. Unit {0} };
+
     fn resolve(self, alloc: Global) -> Result<info::Action, NoMemory> {
         Ok(info::Action {
             preamble: preamble_of(alloc, self.preamble),
@@ -110,6 +125,8 @@ impl Resolve<info::Action> for p4info::Action {
 
 impl Resolve<info::ActionProfile> for p4info::ActionProfile {
     ghost meaning = { profile_of };
+
+    ghost sizes = { λ p. (p.size < 2 ^ 63) × (p.max_group_size < 2 ^ 31) };
 
     fn resolve(self, alloc: Global) -> Result<info::ActionProfile, NoMemory> {
         Ok(info::ActionProfile {
@@ -134,6 +151,8 @@ fn unit_of(given: Option<CounterSpec>) -> i32
 impl Resolve<info::Counter> for p4info::Counter {
     ghost meaning = { counter_of };
 
+    ghost sizes = { λ c. c.size < 2 ^ 63 };
+
     fn resolve(self, alloc: Global) -> Result<info::Counter, NoMemory> {
         Ok(info::Counter {
             preamble: preamble_of(alloc, self.preamble),
@@ -145,6 +164,8 @@ impl Resolve<info::Counter> for p4info::Counter {
 
 impl Resolve<info::DirectCounter> for p4info::DirectCounter {
     ghost meaning = { direct_counter_of };
+
+    ghost sizes = { λ _. Unit {0} };
 
     fn resolve(self, alloc: Global) -> Result<info::DirectCounter, NoMemory> {
         Ok(info::DirectCounter {
@@ -158,6 +179,8 @@ impl Resolve<info::DirectCounter> for p4info::DirectCounter {
 impl Resolve<info::HeaderField> for p4info::Metadata {
     ghost meaning = { header_field_of };
 
+    ghost sizes = { λ _. Unit {0} };
+
     fn resolve(self, _: Global) -> Result<info::HeaderField, NoMemory> {
         Ok(info::HeaderField {
             id: self.id,
@@ -169,6 +192,8 @@ impl Resolve<info::HeaderField> for p4info::Metadata {
 
 impl Resolve<info::ControllerHeader> for p4info::ControllerPacketMetadata {
     ghost meaning = { header_of };
+
+    ghost sizes = { λ _. Unit {0} };
 
     fn resolve(self, alloc: Global) -> Result<info::ControllerHeader, NoMemory> {
         Ok(info::ControllerHeader {
@@ -196,6 +221,8 @@ fn carried(given: Option<ByteList>) -> Option<ByteList>
 impl Resolve<info::Digest> for p4info::Digest {
     ghost meaning = { digest_of };
 
+    ghost sizes = { λ _. Unit {0} };
+
     fn resolve(self, alloc: Global) -> Result<info::Digest, NoMemory> {
         Ok(info::Digest {
             preamble: preamble_of(alloc, self.preamble),
@@ -206,7 +233,8 @@ impl Resolve<info::Digest> for p4info::Digest {
 
 /// The objects of a P4Info, in its order.
 pub(crate) fn info_of(alloc: Global, message: P4Info) -> Result<Info, NoMemory>
-    ensures { IfOk result (λ info. info ≡ info_of message) }
+    ensures meaning { IfOk result (λ info. info ≡ info_of message) }
+    ensures sizes { IfOk result AreSizesSmall }
 {
     Ok(Info {
         tables: all(alloc, message.tables)?,

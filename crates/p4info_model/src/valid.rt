@@ -52,7 +52,7 @@ impl Model for P4Info {
 impl P4Info {
     ghost use Rattle.p4info_model.specs.Answers.{Accepts};
     ghost use Rattle.p4info_model.specs.Lookups.{table_at, action_at, profile_at, counter_at, direct_counter_at, digest_at, header_named};
-    ghost use Rattle.p4info_model.specs.Valid.{IsMade, IsValid, IsValidTable, IsValidAction, IsValidProfile, IsValidDirectCounter, IsValidHeader};
+    ghost use Rattle.p4info_model.specs.Valid.{IsMade, IsValid, AreSizesSmall, IsValidTable, IsValidAction, IsValidProfile, IsValidDirectCounter, IsValidHeader};
 
     /// The P4Info of a message that breaks none of the rules I2 to I9, or the first that it breaks.
     /// An object without a preamble has id 0, which breaks I2.
@@ -74,6 +74,7 @@ impl P4Info {
         ensures objects { result.now ≡ self.now }
         ensures made { IsMade self.now }
         ensures valid { IsValid self.now }
+        ensures sizes { AreSizesSmall self.now }
     {
         &self.info
     }
