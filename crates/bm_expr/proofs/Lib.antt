@@ -1,0 +1,4 @@
+pub mod Shifts
+pub mod Lowest
+pub mod Agrees
+pub mod Agreement

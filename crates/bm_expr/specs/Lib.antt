@@ -1,0 +1,4 @@
+pub mod Store
+pub mod Meaning
+pub mod Settled
+pub mod Whole

@@ -1,0 +1,81 @@
+-- What an expression means, and where it may be asked.
+use Rattle.std.specs.Prelude.{ℕ, Bool, not, ◌&&◌, ◌||◌, if◌then◌else◌, List, length, slice_index, ◌+◌, ◌-◌, ◌*◌, ◌/◌, ◌%◌, ◌^◌, ◌<◌, ◌==◌, nat_lt, nat_le, bit_and, bit_or, bit_xor}
+use Rattle.bm_expr.specs.declared.store.FieldPlace.{FieldPlace}
+use Rattle.bm_expr.specs.declared.expression.Number.{Number}
+use Rattle.bm_expr.specs.declared.expression.Number.TheVariants.{Field, Literal, Datum, Add', Subtract', Multiply', ShiftLeft', ShiftRight', BitAnd', BitOr', BitXor', BitNot', Choose', OfTruth'}
+use Rattle.bm_expr.specs.declared.expression.Truth.{Truth}
+use Rattle.bm_expr.specs.declared.expression.Truth.TheVariants.{Constant, Equal', NotEqual', Less', LessOrEqual', Greater', GreaterOrEqual', And', Or', Not', Select', IsValid, OfNumber'}
+use Rattle.bm_expr.specs.Store.{Contents, header_valid, field_read}
+
+-- Each operator keeps the lowest 128 bits of its result.
+abbrev mutual
+  -- the value of an expression that is a number
+  pub number_value : Contents → List ℕ → Number → ℕ
+  number_value store args (Field place) = field_read store place
+  number_value store args (Literal n) = n
+  number_value store args (Datum i) = slice_index args i
+  number_value store args (Add' _ x _ y) = (number_value store args x + number_value store args y) % 2 ^ 128
+  number_value store args (Subtract' _ x _ y) = (number_value store args x + 2 ^ 128 - number_value store args y) % 2 ^ 128
+  number_value store args (Multiply' _ x _ y) = (number_value store args x * number_value store args y) % 2 ^ 128
+  number_value store args (ShiftLeft' _ x _ y) = (number_value store args x * 2 ^ number_value store args y) % 2 ^ 128
+  number_value store args (ShiftRight' _ x _ y) = number_value store args x / 2 ^ number_value store args y
+  number_value store args (BitAnd' _ x _ y) = bit_and (number_value store args x) (number_value store args y)
+  number_value store args (BitOr' _ x _ y) = bit_or (number_value store args x) (number_value store args y)
+  number_value store args (BitXor' _ x _ y) = bit_xor (number_value store args x) (number_value store args y)
+  number_value store args (BitNot' _ x) = 2 ^ 128 - 1 - number_value store args x
+  number_value store args (Choose' _ c _ x _ y) = if truth_value store args c then number_value store args x else number_value store args y
+  number_value store args (OfTruth' _ t) = if truth_value store args t then 1 else 0
+
+  -- the value of an expression that is a truth value
+  pub truth_value : Contents → List ℕ → Truth → Bool
+  truth_value store args (Constant b) = b
+  truth_value store args (Equal' _ x _ y) = number_value store args x == number_value store args y
+  truth_value store args (NotEqual' _ x _ y) = not (number_value store args x == number_value store args y)
+  truth_value store args (Less' _ x _ y) = nat_lt (number_value store args x) (number_value store args y)
+  truth_value store args (LessOrEqual' _ x _ y) = nat_le (number_value store args x) (number_value store args y)
+  truth_value store args (Greater' _ x _ y) = nat_lt (number_value store args y) (number_value store args x)
+  truth_value store args (GreaterOrEqual' _ x _ y) = nat_le (number_value store args y) (number_value store args x)
+  truth_value store args (And' _ s _ t) = truth_value store args s && truth_value store args t
+  truth_value store args (Or' _ s _ t) = truth_value store args s || truth_value store args t
+  truth_value store args (Not' _ t) = not (truth_value store args t)
+  truth_value store args (Select' _ c _ s _ t) = if truth_value store args c then truth_value store args s else truth_value store args t
+  truth_value store args (IsValid header) = header_valid store header
+  truth_value store args (OfNumber' _ x) = not (number_value store args x == 0)
+
+-- a field and its header stand in the store
+pub record FieldInStore (store : Contents) (place : FieldPlace) : Type 0 where
+  pub field : place.index < length store.fields
+  pub header : place.header < length store.valid
+
+-- The fields and headers that an expression names stand in the store, its data are there, and its literals have 128 bits.
+abbrev mutual
+  pub NumberInStore : Contents → List ℕ → Number → Type 0
+  NumberInStore store args (Field place) = FieldInStore store place
+  NumberInStore store args (Literal n) = n < 2 ^ 128
+  NumberInStore store args (Datum i) = i < length args
+  NumberInStore store args (Add' _ x _ y) = NumberInStore store args x × NumberInStore store args y
+  NumberInStore store args (Subtract' _ x _ y) = NumberInStore store args x × NumberInStore store args y
+  NumberInStore store args (Multiply' _ x _ y) = NumberInStore store args x × NumberInStore store args y
+  NumberInStore store args (ShiftLeft' _ x _ y) = NumberInStore store args x × NumberInStore store args y
+  NumberInStore store args (ShiftRight' _ x _ y) = NumberInStore store args x × NumberInStore store args y
+  NumberInStore store args (BitAnd' _ x _ y) = NumberInStore store args x × NumberInStore store args y
+  NumberInStore store args (BitOr' _ x _ y) = NumberInStore store args x × NumberInStore store args y
+  NumberInStore store args (BitXor' _ x _ y) = NumberInStore store args x × NumberInStore store args y
+  NumberInStore store args (BitNot' _ x) = NumberInStore store args x
+  NumberInStore store args (Choose' _ c _ x _ y) = TruthInStore store args c × NumberInStore store args x × NumberInStore store args y
+  NumberInStore store args (OfTruth' _ t) = TruthInStore store args t
+
+  pub TruthInStore : Contents → List ℕ → Truth → Type 0
+  TruthInStore store args (Constant b) = Unit
+  TruthInStore store args (Equal' _ x _ y) = NumberInStore store args x × NumberInStore store args y
+  TruthInStore store args (NotEqual' _ x _ y) = NumberInStore store args x × NumberInStore store args y
+  TruthInStore store args (Less' _ x _ y) = NumberInStore store args x × NumberInStore store args y
+  TruthInStore store args (LessOrEqual' _ x _ y) = NumberInStore store args x × NumberInStore store args y
+  TruthInStore store args (Greater' _ x _ y) = NumberInStore store args x × NumberInStore store args y
+  TruthInStore store args (GreaterOrEqual' _ x _ y) = NumberInStore store args x × NumberInStore store args y
+  TruthInStore store args (And' _ s _ t) = TruthInStore store args s × TruthInStore store args t
+  TruthInStore store args (Or' _ s _ t) = TruthInStore store args s × TruthInStore store args t
+  TruthInStore store args (Not' _ t) = TruthInStore store args t
+  TruthInStore store args (Select' _ c _ s _ t) = TruthInStore store args c × TruthInStore store args s × TruthInStore store args t
+  TruthInStore store args (IsValid header) = header < length store.valid
+  TruthInStore store args (OfNumber' _ x) = NumberInStore store args x

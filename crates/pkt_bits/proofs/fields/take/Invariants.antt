@@ -1,0 +1,14 @@
+use Rattle.std.proofs.Common.{◌-◌, ◌+◌, ◌*◌, ◌≡◌, ◌≤◌, ◌<◌}
+use Rattle.pkt_bits.specs.Field.{field}
+use Rattle.pkt_bits.proofs.fields.take.Given as goal
+
+abbrev pub invariant-loop-left : goal.invariant-loop-left
+invariant-loop-left l = record {
+  within : l.offset < 8;
+  few : l.left ≤ l.width;
+  here : 0 < l.left → l.place * 8 + l.offset ≡ l.bit + (l.width - l.left);
+  so_far : l.value ≡ field l.bytes l.bit (l.width - l.left);
+}
+
+abbrev pub decreases-loop-left : goal.decreases-loop-left
+decreases-loop-left l = l.left
