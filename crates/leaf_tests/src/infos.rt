@@ -1,31 +1,32 @@
 // P4Infos, and what they break.
 use crate::vectors::{Row, run, say, tell};
 use p4_types::code::NoMemory;
-use p4info_model::{InfoError, read_info};
+use p4info_model::{InfoError, read_info, write_info};
 use std::alloc::Global;
 use std::test::Fail;
 
-// What is told: how many tables and actions there are, or the first rule that is broken.
+// What is told: how many tables and actions there are, and whether the bytes are the canonical ones, or the
+// first rule that is broken.
 const INFOS: [Row<'static>; 23] = [
     (
         "the bridge",
         "12300a0d08818080101206627269646765120f080112076574682e647374203028021a0508818080081a05088280800840041a1c0a0e08818080081207666f7277617264120a08011204706f727420091a0d0a0b0882808008120464726f70",
-        "1 2 ",
+        "1 2 true ",
     ),
     (
         "the router",
         "123b0a0f08828080101208697076345f6c706d121008011208697076342e647374202028031a0508838080081a0508828080083a0581808098014080401a250a0c08838080081205726f757465120a08011204706f727420091209080212036d616320301a0d0a0b0882808008120464726f7032200a15088180809801120d697076345f6c706d5f68697473120208031882808010",
-        "1 2 ",
+        "1 2 true ",
     ),
     (
         "the lab",
         "12320a0a0891808010120361636c120d080112056c61622e61200828041a0508918080081a0508928080081a0508828080084008122b0a0b0892808010120465636d70120d080112056c61622e62200828021a05089180800830818080880140081a1d0a0f089180800812087365745f706f7274120a08011204706f727420091a1a0a0c089280800812056c6561726e120a08011204706f727420091a0d0a0b0882808008120464726f7022200a12088180808801120a65636d705f7061746873120492808010180120102810620e0a0c08818080b80112047365656e",
-        "2 3 ",
+        "2 3 true ",
     ),
     (
         "a table and its action",
         "121f0a08088180801012017412090801120166200928021a0508818080084080081a0a0a080881808008120161",
-        "1 1 ",
+        "1 1 true ",
     ),
     (
         "a wire type that there is not",
@@ -60,7 +61,7 @@ const INFOS: [Row<'static>; 23] = [
     (
         "a table and an action of one name",
         "121f0a08088180801012016112090801120166200928021a0508818080084080081a0a0a080881808008120161",
-        "1 1 ",
+        "1 1 true ",
     ),
     (
         "an action that there is not",
@@ -80,7 +81,7 @@ const INFOS: [Row<'static>; 23] = [
     (
         "a width of 128",
         "12200a080881808010120174120a080112016620800128021a0508818080084080081a0a0a080881808008120161",
-        "1 1 ",
+        "1 1 true ",
     ),
     (
         "a width of 129",
@@ -120,7 +121,7 @@ const INFOS: [Row<'static>; 23] = [
     (
         "a header of two bytes",
         "121f0a08088180801012017412090801120166200928021a0508818080084080081a0a0a0808818080081201614a260a10088180802012097061636b65745f696e1208080112026d3020091208080212026d312007",
-        "1 1 ",
+        "1 1 true ",
     ),
 ];
 
@@ -129,6 +130,7 @@ fn told_of(alloc: Global, bytes: &[u8], told: &mut String) -> Result<(), NoMemor
         Ok(model) => {
             tell(told, model.info().tables.len());
             tell(told, model.info().actions.len());
+            tell(told, write_info(alloc, &model)?.as_slice() == bytes);
             Ok(())
         }
         Err(InfoError::Fault(fault)) => {

@@ -2,9 +2,13 @@
 #![tactic(auto)]
 
 #[cfg(test)]
+mod bits;
+#[cfg(test)]
 mod byte_strings;
 #[cfg(test)]
 mod edge;
+#[cfg(test)]
+mod expressions;
 #[cfg(test)]
 mod fields;
 #[cfg(test)]
