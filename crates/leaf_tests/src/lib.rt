@@ -12,6 +12,8 @@ mod expressions;
 #[cfg(test)]
 mod fields;
 #[cfg(test)]
+mod frames;
+#[cfg(test)]
 mod infos;
 #[cfg(test)]
 mod messages;

@@ -1,0 +1,5 @@
+pub mod Settings
+pub mod Numbers
+pub mod FramesBack
+pub mod ReadBack
+pub mod ReadFits

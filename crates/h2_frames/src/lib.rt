@@ -1,0 +1,15 @@
+//! The frames of HTTP/2, read and written (RFC 9113, sections 4 and 6).
+#![tactic(auto)]
+
+mod codes;
+mod frame;
+mod head;
+pub mod laws;
+mod reading;
+mod writing;
+
+pub use codes::{FrameError, H2Code};
+pub use frame::{Frame, Setting, StreamPriority};
+pub use head::{Head, check_head, read_head};
+pub use reading::read_payload;
+pub use writing::write_frame;
