@@ -1,17 +1,35 @@
-//! Measures what only shows inside of the process. The word `counters` measures the counters that threads share.
+//! Measures what only shows inside of the process. The word `counters` measures the counters that threads share,
+//! `packets` the reading of fields and the value of expressions.
 #![tactic(auto)]
 
 mod counters;
+mod packets;
 
 use std::{env, io};
+
+fn tell_packets(rt: HostRuntime) -> io::Result<()> {
+    let field = packets::fields(&rt, &[0x5a; 64])?;
+    println!(rt;
+        "a field of 48 bits: {} hundredths of a nanosecond (sum {})",
+        field.hundredths, field.sum
+    )?;
+    let expression = packets::expressions(&rt)?;
+    println!(rt;
+        "three operators: {} hundredths of a nanosecond (sum {})",
+        expression.hundredths, expression.sum
+    )
+}
 
 fn main(rt: HostRuntime) -> io::Result<()> {
     let word = match env::args(&rt)?.nth(1) {
         Some(word) => word,
         None => String::new(rt.alloc()),
     };
+    if word.as_str() == "packets" {
+        return tell_packets(rt);
+    }
     if word.as_str() != "counters" {
-        return println!(rt; "speed counters");
+        return println!(rt; "speed counters\nspeed packets");
     }
     for apart in [0, 262_144] {
         for threads in [1, 2, 4] {
