@@ -1,9 +1,10 @@
 //! Measures what only shows inside of the process. The word `counters` measures the counters that threads share,
-//! `packets` the reading of fields and the value of expressions.
+//! `packets` the reading of fields and the value of expressions, `tables` look-ups in a table of routes.
 #![tactic(auto)]
 
 mod counters;
 mod packets;
+mod tables;
 
 use std::{env, io};
 
@@ -20,6 +21,17 @@ fn tell_packets(rt: HostRuntime) -> io::Result<()> {
     )
 }
 
+fn tell_tables(rt: HostRuntime) -> io::Result<()> {
+    for routes in [1_000, 8_000] {
+        let took = tables::look_ups(&rt, routes)?;
+        println!(rt;
+            "{routes} routes: {} hundredths of a nanosecond by name, {} by key ({} found)",
+            took.find, took.best, took.found
+        )?;
+    }
+    Ok(())
+}
+
 fn main(rt: HostRuntime) -> io::Result<()> {
     let word = match env::args(&rt)?.nth(1) {
         Some(word) => word,
@@ -28,8 +40,11 @@ fn main(rt: HostRuntime) -> io::Result<()> {
     if word.as_str() == "packets" {
         return tell_packets(rt);
     }
+    if word.as_str() == "tables" {
+        return tell_tables(rt);
+    }
     if word.as_str() != "counters" {
-        return println!(rt; "speed counters\nspeed packets");
+        return println!(rt; "speed counters\nspeed packets\nspeed tables");
     }
     for apart in [0, 262_144] {
         for threads in [1, 2, 4] {

@@ -1,0 +1,31 @@
+-- Sequence numbers of a store that is filled.
+use Rattle.std.proofs.Common.{◌≡◌, ℕ, ◌+◌, ◌<◌, List, All, Result, Ok, Err, OnOk, OnErr, sym, subst, arith}
+use Rattle.std.proofs.lemmas.List.Elements.{All-filter, All-append, All-cons, All-weaker}
+use Rattle.p4_types.specs.declared.info.Table.{Table}
+use Rattle.p4_types.specs.declared.table.Entry.{Entry}
+use Rattle.p4_types.specs.declared.table.EntryChange.{EntryChange}
+use Rattle.p4_types.specs.declared.table.Room.{Room}
+use Rattle.switch_spec.specs.Entries.{new_entry, next_number, inserted}
+
+-- an entry's number is below
+abbrev Below : ℕ → Entry → Type 0
+Below next entry = entry.seq < next
+
+weaker : (n : ℕ) (entries : List Entry) → All (Below (1 + n)) entries → All (Below (2 + n)) entries
+weaker n entries h = All-weaker (Below (1 + n)) (Below (2 + n)) (λ entry lt. omega (arith, lt)) entries h
+
+below_inserted : (n : ℕ) (table : Table) (room : Room) (change : EntryChange) (entries : List Entry) → next_number room ≡ 1 + n → All (Below (1 + n)) entries
+    → All (Below (2 + n)) (inserted (new_entry table room change) entries)
+unfolding inserted
+below_inserted n table room change entries is h =
+    let entry : Entry = new_entry table room change in
+    let more = weaker n entries h in
+    let own : Below (2 + n) entry = omega (arith, is) in
+    All-append (Below (2 + n)) _ _ (All-filter _ (Below (2 + n)) entries more)
+    (All-cons (Below (2 + n)) entry _ own (All-filter _ (Below (2 + n)) entries more))
+
+-- after an INSERT that draws the number 1 + n, or is refused, all numbers are below 2 + n
+pub below_put : {A B : Type 0} (r : Result A B) (n : ℕ) (table : Table) (room : Room) (change : EntryChange) (old new : List Entry) → next_number room ≡ 1 + n
+    → All (Below (1 + n)) old → OnOk r (new ≡ inserted (new_entry table room change) old) → OnErr r (new ≡ old) → All (Below (2 + n)) new
+below_put (Ok x) n table room change old new is h ok err = let P : List Entry → Type 0 = All (Below (2 + n)) in subst P (sym ok) (below_inserted n table room change old is h)
+below_put (Err e) n table room change old new is h ok err = let P : List Entry → Type 0 = All (Below (2 + n)) in subst P (sym err) (weaker n old h)

@@ -1,0 +1,182 @@
+// Look-ups in a table of routes.
+ghost use Rattle.std.specs.Prelude.{◌≡◌, ◌<◌, ◌+◌, ◌-◌, ◌^◌, All, IfOk};
+
+use p4_types::code::NoMemory;
+use p4_types::info::Table;
+use p4_types::list::{List, Text};
+use p4_types::p4info::Preamble;
+use p4_types::table::{ActionCall, EntryChange, EntryName, FieldTest, Room};
+use std::alloc::Global;
+use std::io::{self, Error, ErrorKind};
+use std::time::Clock;
+use table_store::TableStore;
+
+// The table of IPv4 routes of a router, and its action.
+const ROUTES: u32 = 0x0200_0002;
+
+const ROUTE: u32 = 0x0100_0003;
+
+const LOOK_UPS: u32 = 2_000;
+
+/// What a look-up took, in hundredths of a nanosecond: of an entry by its name, and of the best entry of a key. How
+/// many were found, which keeps the work from being left out.
+#[derive(Drop)]
+pub struct Measured {
+    pub find: u128,
+    pub best: u128,
+    pub found: u32,
+}
+
+fn text(alloc: Global) -> Text {
+    Text::from_string(String::new(alloc))
+}
+
+fn routes(alloc: Global) -> Table
+    ensures { result.preamble.id ≡ 33554434 }
+{
+    Table {
+        preamble: Preamble {
+            id: ROUTES,
+            name: text(alloc),
+            alias: text(alloc),
+            annotations: List::new(alloc),
+        },
+        match_fields: List::new(alloc),
+        action_refs: List::new(alloc),
+        const_default_action: None,
+        action_profile: None,
+        direct_counters: List::new(alloc),
+        size: 16_384,
+        idle_timeout_behavior: 0,
+        is_const_table: false,
+    }
+}
+
+// The network of this number: 24 bits of an address.
+fn network(number: u32) -> u128 {
+    u128::from(number) * 256 % 0x1_0000_0000
+}
+
+fn name(alloc: Global, number: u32) -> Result<EntryName, NoMemory>
+    ensures { IfOk result (λ name. name.table ≡ 33554434) }
+{
+    let mut tests = List::new(alloc);
+    tests.push(FieldTest::Prefix {
+        value: network(number),
+        length: 24,
+        width: 32,
+    })?;
+    Ok(EntryName {
+        table: ROUTES,
+        tests,
+        priority: 0,
+    })
+}
+
+fn route(alloc: Global, number: u32) -> Result<EntryChange, NoMemory>
+    ensures { IfOk result (λ change. change.name.table ≡ 33554434) }
+{
+    Ok(EntryChange {
+        name: name(alloc, number)?,
+        controller_metadata: 0,
+        action: ActionCall {
+            action: ROUTE,
+            arguments: List::new(alloc),
+        },
+    })
+}
+
+// Puts a route in, which draws this sequence number.
+fn put(
+    alloc: Global,
+    store: &mut TableStore,
+    table: &Table,
+    change: &EntryChange,
+    number: u32,
+) -> bool
+    requires table { table.now.preamble.id ≡ 33554434 }
+    requires change { change.now.name.table ≡ 33554434 }
+    requires below { All (λ entry. entry.seq < 1 + number) store.old }
+    ensures below { All (λ entry. entry.seq < 2 + number) store.new }
+{
+    let room = Room {
+        rows: 1,
+        slots: 1,
+        numbers: u64::MAX - 1 - u64::from(number),
+    };
+    store.insert(alloc, table, change, room).is_ok()
+}
+
+// A store of so many routes.
+fn filled(alloc: Global, routes: u32) -> Result<TableStore, NoMemory> {
+    let table = self::routes(alloc);
+    let mut store = TableStore::open(alloc);
+    for number in 0..routes {
+        let change = route(alloc, number)?;
+        if !put(alloc, &mut store, &table, &change, number) {
+            return Err(NoMemory);
+        }
+    }
+    Ok(store)
+}
+
+// The name and the address of a look-up.
+#[derive(Drop)]
+struct LookUp {
+    name: EntryName,
+    key: [u128; 1],
+}
+
+fn asked(alloc: Global, routes: u32) -> Result<Vec<LookUp>, NoMemory> {
+    let mut list = Vec::new(alloc);
+    for number in 0..LOOK_UPS {
+        let route = (number * 7919).checked_rem(routes).unwrap_or(0);
+        list.push(LookUp {
+            name: name(alloc, route)?,
+            key: [network(route).wrapping_add(1)],
+        })?;
+    }
+    Ok(list)
+}
+
+fn found_by_name(store: &TableStore, asked: &[LookUp]) -> u32 {
+    let mut found = 0u32;
+    for one in asked {
+        if store.find(&one.name).is_some() {
+            found = found.wrapping_add(1);
+        }
+    }
+    found
+}
+
+fn found_by_key(store: &TableStore, asked: &[LookUp]) -> u32 {
+    let mut found = 0u32;
+    for one in asked {
+        if store.best(ROUTES, &one.key).is_some() {
+            found = found.wrapping_add(1);
+        }
+    }
+    found
+}
+
+fn hundredths(before: u128, after: u128) -> u128 {
+    after.saturating_sub(before).saturating_mul(100) / u128::from(LOOK_UPS)
+}
+
+/// Looks up in a table of so many routes.
+pub fn look_ups<R: Clock + AllocGlobal>(rt: &R, routes: u32) -> io::Result<Measured> {
+    let alloc = rt.alloc();
+    let (Ok(store), Ok(asked)) = (filled(alloc, routes), asked(alloc, routes)) else {
+        return Err(Error::from(ErrorKind::OutOfMemory));
+    };
+    let start = rt.monotonic()?.as_nanos();
+    let found = found_by_name(&store, &asked);
+    let middle = rt.monotonic()?.as_nanos();
+    let best = found_by_key(&store, &asked);
+    let end = rt.monotonic()?.as_nanos();
+    Ok(Measured {
+        find: hundredths(start, middle),
+        best: hundredths(middle, end),
+        found: found.wrapping_add(best),
+    })
+}
