@@ -24,4 +24,6 @@ mod served;
 #[cfg(test)]
 mod tables;
 #[cfg(test)]
+mod updates;
+#[cfg(test)]
 mod vectors;
