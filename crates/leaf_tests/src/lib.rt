@@ -14,16 +14,8 @@ mod fields;
 #[cfg(test)]
 mod frames;
 #[cfg(test)]
-mod infos;
-#[cfg(test)]
 mod messages;
 #[cfg(test)]
 mod roles;
-#[cfg(test)]
-mod served;
-#[cfg(test)]
-mod tables;
-#[cfg(test)]
-mod updates;
 #[cfg(test)]
 mod vectors;
