@@ -1,5 +1,5 @@
 -- The events of a Write lead to what its updates wrote.
-use Rattle.std.proofs.Common.{◌≡◌, Bool, true, false, cond, List, [], ◌∷◌, ◌++◌, map, fold, Option, Some, None, Result, Ok, Err, if◌then◌else◌, refl, ap, ◌∙◌, sym, subst}
+use Rattle.std.proofs.Common.{◌≡◌, ℕ, Bool, true, false, cond, List, [], ◌∷◌, map, fold, Option, None, Result, Ok, Err, if◌then◌else◌, refl, ap, ◌∙◌, sym, subst}
 use Rattle.std.specs.List.{filter_map}
 use Rattle.std.specs.Result.{result_ok}
 use Rattle.p4_types.specs.declared.code.Cause.{Cause}
@@ -7,11 +7,17 @@ use Rattle.p4_types.specs.declared.events.Event.{Event}
 use Rattle.p4_types.specs.declared.events.Event.TheVariants as events
 use Rattle.p4_types.specs.declared.events.Origin.{Origin}
 use Rattle.p4_types.specs.declared.table.Change.{Change}
-use Rattle.ctl_core.specs.declared.fixed.Fixed.{Fixed}
+use Rattle.ctl_core.specs.declared.state.Draft.TheVariants as drafts
+use Rattle.ctl_core.specs.declared.state.State.{State}
+use Rattle.p4_types.specs.declared.messages.MasterArbitrationUpdate.{MasterArbitrationUpdate}
+use Rattle.role_arbiter.specs.Arbitration.{cause, asked, arbitrated, settled, left}
+use Rattle.role_arbiter.specs.State.{RolesState}
+use Rattle.role_arbiter.proofs.Settling.{takes_effect}
 use Rattle.switch_spec.specs.Answer.{state_after, has_failed, batch, continued, all_or_nothing}
-use Rattle.switch_spec.specs.Control.{Control, change_applied, applied}
+use Rattle.switch_spec.specs.Control.{Control, change_applied, applied, session_by, with_roles}
 use Rattle.ctl_core.specs.Prepared.{Leads, draft_unless}
 use Rattle.ctl_core.specs.State.{Written, control_of}
+use Rattle.ctl_core.specs.Whole.{control_in}
 
 -- the changes of the outcomes, in turn
 changes_applied : (list : List (Result Change Cause)) (c : Control) → fold state_after c list ≡ fold change_applied c (filter_map result_ok list)
@@ -28,27 +34,37 @@ batch_applied by [] c = refl
 batch_applied by (change ∷ list) c = refl
 
 -- there are no events, or they lead to what was written
-leads_by : (made : List Event) (fixed : Fixed) (c : Control) (w : Written) → control_of fixed w ≡ applied c made → Leads fixed c made (draft_unless made w)
-leads_by [] fixed c w is = refl
-leads_by (event ∷ made) fixed c w is = is
+leads_by : (made : List Event) (s : State) (w : Written) → control_of s.fixed w s.roles ≡ applied (control_in s) made → Leads s made (draft_unless made w)
+leads_by [] s w is = refl
+leads_by (event ∷ made) s w is = is
 
 -- where a batch fails there are none
-atomic_leads : (b : Bool) (by : Origin) (list : List (Result Change Cause)) (fixed : Fixed) (c : Control) (w : Written) → control_of fixed w ≡ fold state_after c list
-    → let made : List Event = cond b [] (batch by (filter_map result_ok list)) in Leads fixed c made (draft_unless made w)
-atomic_leads true by list fixed c w h = refl
-atomic_leads false by list fixed c w h = leads_by (batch by (filter_map result_ok list)) fixed c w (h ∙ changes_applied list c ∙ sym (batch_applied by (filter_map result_ok list) c))
+atomic_leads : (b : Bool) (by : Origin) (list : List (Result Change Cause)) (s : State) (w : Written) → control_of s.fixed w s.roles ≡ fold state_after (control_in s) list
+    → let made : List Event = cond b [] (batch by (filter_map result_ok list)) in Leads s made (draft_unless made w)
+atomic_leads true by list s w h = refl
+atomic_leads false by list s w h = leads_by (batch by (filter_map result_ok list)) s w (h ∙ changes_applied list (control_in s) ∙ sym (batch_applied by (filter_map result_ok list) (control_in s)))
 
-continued_leads : (by : Origin) (list : List (Result Change Cause)) (fixed : Fixed) (c : Control) (w : Written) → control_of fixed w ≡ fold state_after c list
-    → let made : List Event = map (events.Change by) (filter_map result_ok list) in Leads fixed c made (draft_unless made w)
-continued_leads by list fixed c w h = leads_by (map (events.Change by) (filter_map result_ok list)) fixed c w (h ∙ changes_applied list c ∙ sym (each_applied by (filter_map result_ok list) c))
+continued_leads : (by : Origin) (list : List (Result Change Cause)) (s : State) (w : Written) → control_of s.fixed w s.roles ≡ fold state_after (control_in s) list
+    → let made : List Event = map (events.Change by) (filter_map result_ok list) in Leads s made (draft_unless made w)
+continued_leads by list s w h = leads_by (map (events.Change by) (filter_map result_ok list)) s w (h ∙ changes_applied list (control_in s) ∙ sym (each_applied by (filter_map result_ok list) (control_in s)))
 
-either_leads : (b : Bool) (by : Origin) (list : List (Result Change Cause)) (fixed : Fixed) (c : Control) (w : Written) → control_of fixed w ≡ fold state_after c list
-    → let made : List Event = (if b then all_or_nothing by list else continued by list).events in Leads fixed c made (draft_unless made w)
-either_leads true by list fixed c w h = atomic_leads (has_failed list) by list fixed c w h
-either_leads false by list fixed c w h = continued_leads by list fixed c w h
+either_leads : (b : Bool) (by : Origin) (list : List (Result Change Cause)) (s : State) (w : Written) → control_of s.fixed w s.roles ≡ fold state_after (control_in s) list
+    → let made : List Event = (if b then all_or_nothing by list else continued by list).events in Leads s made (draft_unless made w)
+either_leads true by list s w h = atomic_leads (has_failed list) by list s w h
+either_leads false by list s w h = continued_leads by list s w h
 
 -- the events of a Write lead to what its updates wrote, or there are none
-pub write_leads : (atomic : Bool) (by : Origin) (list : List (Result Change Cause)) (fixed : Fixed) (c : Control) (w : Written) (made : List Event)
-    → made ≡ (if atomic then all_or_nothing by list else continued by list).events → control_of fixed w ≡ fold state_after c list → Leads fixed c made (draft_unless made w)
-write_leads atomic by list fixed c w made is h =
-    let P : List Event → Type 0 = λ m. Leads fixed c m (draft_unless m w) in subst P (sym is) (either_leads atomic by list fixed c w h)
+pub write_leads : (atomic : Bool) (by : Origin) (list : List (Result Change Cause)) (s : State) (w : Written) (made : List Event)
+    → made ≡ (if atomic then all_or_nothing by list else continued by list).events → control_of s.fixed w s.roles ≡ fold state_after (control_in s) list → Leads s made (draft_unless made w)
+write_leads atomic by list s w made is h =
+    let P : List Event → Type 0 = λ m. Leads s m (draft_unless m w) in subst P (sym is) (either_leads atomic by list s w h)
+
+-- the event of an arbitration that breaks no rule leads to the roles with its session
+pub arbitration_leads : (s : State) (by : Origin) (update : MasterArbitrationUpdate) (config : Option (List ℕ)) (roles : RolesState) → cause s.roles by.caller update ≡ None
+    → asked by.caller update ≡ session_by by config → roles ≡ arbitrated s.roles (asked by.caller update) → Leads s (events.Arbitrate by config ∷ []) (drafts.Roles roles)
+arbitration_leads s by update config roles accepted asks is =
+    ap (with_roles (control_in s)) (is ∙ sym (takes_effect s.roles by.caller update accepted) ∙ ap (λ new. settled s.roles new) asks)
+
+-- the event of a stream's end leads to the roles without its session
+pub leave_leads : (s : State) (lane k : ℕ) (roles : RolesState) → roles ≡ left s.roles lane → Leads s (events.Leave lane k ∷ []) (drafts.Roles roles)
+leave_leads s lane k roles is = ap (with_roles (control_in s)) is

@@ -1,4 +1,4 @@
-pub mod BridgeLemmas
+pub mod Arbitrating
 pub mod Handling
 pub mod Leading
 pub mod Numbering

@@ -1,6 +1,6 @@
-pub mod BridgeInfo
 pub mod Core
 pub mod Messages
 pub mod Packets
 pub mod Prepared
 pub mod State
+pub mod Whole

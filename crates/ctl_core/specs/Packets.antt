@@ -10,6 +10,7 @@ use Rattle.switch_spec.specs.Entries.{best}
 use Rattle.switch_spec.specs.Meaning as meaning
 use Rattle.switch_spec.specs.Meaning.{dropped, drop_port, key_of, packet_in}
 use Rattle.ctl_core.specs.declared.fixed.Program.{Program}
+use Rattle.ctl_core.specs.declared.packets.Cpu.{Cpu}
 use Rattle.ctl_core.specs.declared.packets.Verdict.{Verdict}
 use Rattle.ctl_core.specs.State.{Written}
 
@@ -17,19 +18,19 @@ use Rattle.ctl_core.specs.State.{Written}
 abbrev pub verdict_of : Verdict → meaning.Verdict
 verdict_of v = record { fate = v.fate; outputs = v.outputs; cpu = v.cpu; digest = None; hits = v.hits }
 
-abbrev pub sent_by : ℕ → ℕ → List HitMark → List ℕ → meaning.Verdict
+abbrev pub sent_by : Cpu → ℕ → List HitMark → List ℕ → meaning.Verdict
 sent_by cpu port hits packet =
     if port == drop_port then dropped 1 hits else
-    if port == cpu then record (dropped 0 hits) { cpu = (Some 0, packet_in packet) ∷ [] }
+    if port == cpu.port then record (dropped 0 hits) { cpu = (cpu.primary, packet_in packet) ∷ [] }
     else record (dropped 0 hits) { outputs = (port, packet) ∷ [] }
 
-abbrev pub acted_by : ℕ → Option ActionCall → List HitMark → List ℕ → meaning.Verdict
+abbrev pub acted_by : Cpu → Option ActionCall → List HitMark → List ℕ → meaning.Verdict
 acted_by cpu None hits packet = dropped 1 hits
 acted_by cpu (Some call) hits packet = if call.action == forward_action then sent_by cpu (slice_index call.arguments 0 % 2 ^ 9) hits packet else dropped 1 hits
 
-abbrev pub hit_by : ℕ → Option Entry → Program → Written → List ℕ → meaning.Verdict
+abbrev pub hit_by : Cpu → Option Entry → Program → Written → List ℕ → meaning.Verdict
 hit_by cpu None p w packet = acted_by cpu (option_map (λ d. d.action) (default_of w.changed p.defaults bridge_table)) [] packet
 hit_by cpu (Some entry) p w packet = acted_by cpu (Some entry.action) (marks.Entry bridge_table entry.seq ∷ []) packet
 
-abbrev pub forwarded_by : ℕ → Program → Written → List ℕ → meaning.Verdict
+abbrev pub forwarded_by : Cpu → Program → Written → List ℕ → meaning.Verdict
 forwarded_by cpu p w packet = hit_by cpu (best bridge_table (key_of packet ∷ []) w.entries) p w packet

@@ -1,11 +1,8 @@
--- The control state, as the part that writes change and the part that they leave.
+-- The control state, as what calls leave, what Writes change, and who may write.
 use Rattle.std.specs.Prelude.{ℕ, ◌<◌, ◌≤◌, ◌+◌, ◌-◌, ◌^◌, false, if◌then◌else◌, List, length, map, All, Option, Some, None, Result}
-use Rattle.p4_types.specs.declared.code.Cause.{Cause}
 use Rattle.p4_types.specs.declared.code.Code.{Code}
 use Rattle.p4_types.specs.declared.messages.Entity.{Entity}
 use Rattle.switch_spec.specs.Reading.{read_unless, first_of, entity_refusal}
-use Rattle.p4_types.specs.declared.info.Info.{Info}
-use Rattle.p4_types.specs.declared.table.Change.{Change}
 use Rattle.p4_types.specs.declared.table.DefaultAction.{DefaultAction}
 use Rattle.p4_types.specs.declared.table.Entry.{Entry}
 use Rattle.p4_types.specs.declared.table.EntryChange.{EntryChange}
@@ -16,6 +13,7 @@ use Rattle.ctl_core.specs.declared.fixed.Fixed.{Fixed}
 use Rattle.ctl_core.specs.declared.fixed.Program.{Program}
 use Rattle.p4_types.specs.declared.events.Start.{Start}
 use Rattle.switch_spec.specs.Bridge.{bridge_info, bridge_defaults}
+use Rattle.role_arbiter.specs.State.{RolesState}
 use Rattle.switch_spec.specs.Control.{Control, Plane}
 use Rattle.table_store.specs.declared.error.StoreError.{StoreError}
 use Rattle.table_store.specs.declared.error.StoreError.TheVariants as errors
@@ -32,8 +30,9 @@ abbrev pub plane_of : Option Program → Written → Option Plane
 plane_of None w = None
 plane_of (Some p) w = Some (record { info = p.info; entries = w.entries; changed = w.changed; program = p.defaults })
 
-abbrev pub control_of : Fixed → Written → Control
-control_of f w = record { device = f.device; cpu = f.cpu; rows = f.rows; plane = plane_of f.program w; next = w.next; next_slot = w.next_slot; closed = false }
+abbrev pub control_of : Fixed → Written → RolesState → Control
+control_of f w roles =
+    record { device = f.device; cpu = f.cpu; rows = f.rows; roles = roles; plane = plane_of f.program w; next = w.next; next_slot = w.next_slot; closed = false }
 
 -- every entry has drawn its number, and there are no more numbers and slots than there are
 pub record IsNumbered (w : Written) : Type 0 where

@@ -2,16 +2,16 @@
 ghost use Rattle.std.specs.Prelude.{◌≡◌, ◌≤◌, ◌∷◌, [], false, length, IfOk};
 ghost use Rattle.switch_spec.specs.Answer.{write_refusal, write_answer, origin, unreadable, plain, failed, read_reply, answer_to, state_after, outcomes};
 ghost use Rattle.switch_spec.specs.Status.{capabilities_bytes};
-ghost use Rattle.switch_spec.specs.Control.{primary, bears, Legal};
+ghost use Rattle.switch_spec.specs.Control.{same_id, primary, bears, Legal};
 ghost use Rattle.switch_spec.specs.History.{is_unavailable};
 ghost use Rattle.switch_spec.specs.Reading.{read_result};
-ghost use Rattle.ctl_core.specs.Prepared.{IsPrepared, WritesNothing, Leads, draft_unless};
-ghost use Rattle.ctl_core.specs.State.{control_of};
+ghost use Rattle.ctl_core.specs.Prepared.{IsPrepared, ChangesNothing, Leads, draft_unless};
+ghost use Rattle.ctl_core.specs.Whole.{control_in};
 
-use crate::fixed::Fixed;
 use crate::prepared::Prepared;
+use crate::state::{Draft, State};
 use crate::written::Written;
-use crate::{messages, writes};
+use crate::{messages, stream, writes};
 use p4_types::calls::Call;
 use p4_types::code::{Code, NoMemory};
 use p4_types::events::Origin;
@@ -22,25 +22,34 @@ use std::alloc::Global;
 /// How many updates a Write may have.
 const UPDATES: usize = 4_096;
 
-// Whether an election id is that of the role's primary: with the bridge, 1 in role 0.
-fn bears(fixed: &Fixed, written: &Written, role: u64, id: Uint128) -> bool
-    ensures { result ≡ bears (primary (control_of fixed.now written.now) role) id }
+fn same_id(a: Uint128, b: Uint128) -> bool
+    ensures { result ≡ same_id a b }
 {
-    let _ = written;
-    fixed.program.is_some() && role == 0 && id.high == 0 && id.low == 1
+    a.high == b.high && a.low == b.low
+}
+
+// Whether an election id is that of the role's primary, and not 0.
+fn bears(state: &State, role: u64, id: Uint128) -> bool
+    ensures { result ≡ bears (primary (control_in state.now) role) id }
+{
+    match state.roles.primary_session(role) {
+        None => false,
+        Some(primary) => same_id(primary.election_id, id)
+            && !same_id(id, Uint128 { high: 0, low: 0 }),
+    }
 }
 
 // Why a Write is refused whole.
-fn write_refusal(fixed: &Fixed, written: &Written, request: &WriteRequest) -> Option<Code>
-    ensures { result ≡ write_refusal (control_of fixed.now written.now) request.now }
+fn write_refusal(state: &State, request: &WriteRequest) -> Option<Code>
+    ensures { result ≡ write_refusal (control_in state.now) request.now }
 {
-    if request.device_id != fixed.device {
+    if request.device_id != state.fixed.device {
         return Some(Code::NotFound);
     }
-    if !bears(fixed, written, request.role_id, request.election_id) {
+    if !bears(state, request.role_id, request.election_id) {
         return Some(Code::PermissionDenied);
     }
-    if fixed.program.is_none() {
+    if state.fixed.program.is_none() {
         return Some(Code::FailedPrecondition);
     }
     if !writes::is_atomicity(request.atomicity) {
@@ -55,44 +64,45 @@ fn write_refusal(fixed: &Fixed, written: &Written, request: &WriteRequest) -> Op
 // A call that fails for this code alone.
 fn failure(alloc: Global, code: Code) -> Result<Prepared, NoMemory>
     ensures answer { IfOk result (λ p. IsPrepared (failed code) p) }
-    ensures nothing { IfOk result (λ p. WritesNothing p) }
+    ensures nothing { IfOk result (λ p. ChangesNothing p) }
 {
     Ok(Prepared {
         code,
         messages: messages::of_code(alloc, code)?,
+        notices: List::new(alloc),
         events: List::new(alloc),
-        written: None,
+        draft: Draft::Nothing,
     })
 }
 
 // The answer with what is written, which is let go where there are no events.
 fn with_draft(answer: Prepared, draft: Written) -> Prepared
-    ensures { result ≡ record answer { written = draft_unless answer.events draft } }
+    ensures { result ≡ record answer { draft = draft_unless answer.events draft } }
 {
-    let written = match answer.events.as_slice() {
-        [] => None,
-        _ => Some(draft),
+    let draft = match answer.events.as_slice() {
+        [] => Draft::Nothing,
+        _ => Draft::Written(draft),
     };
     Prepared {
         code: answer.code,
         messages: answer.messages,
+        notices: answer.notices,
         events: answer.events,
-        written,
+        draft,
     }
 }
 
 fn write(
     alloc: Global,
-    fixed: &Fixed,
-    written: &Written,
+    state: &State,
     lane: u16,
     call: u32,
     request: &WriteRequest,
 ) -> Result<Prepared, NoMemory>
-    ensures prepared { IfOk result (λ p. IsPrepared (write_answer (control_of fixed.now written.now) lane call request.now) p) }
-    ensures leads { IfOk result (λ p. Leads fixed.now (control_of fixed.now written.now) p.events p.written) }
+    ensures prepared { IfOk result (λ p. IsPrepared (write_answer (control_in state.now) lane call request.now) p) }
+    ensures leads { IfOk result (λ p. Leads state.now p.events p.draft) }
 {
-    if let Some(code) = write_refusal(fixed, written, request) {
+    if let Some(code) = write_refusal(state, request) {
         return failure(alloc, code);
     }
     let by = Origin {
@@ -101,11 +111,11 @@ fn write(
         role: request.role_id,
         election_id: request.election_id,
     };
-    let mut draft = written.duplicate(alloc)?;
+    let mut draft = state.written.duplicate(alloc)?;
     let outcomes = draft.updates(
         alloc,
-        fixed,
-        None,
+        &state.fixed,
+        &state.roles,
         request.role_id,
         request.updates.as_slice(),
     )?;
@@ -118,31 +128,33 @@ fn write(
 #[tactic(auto, unfolding(switch_spec::specs::Reading::read_result))]
 fn read(
     alloc: Global,
-    fixed: &Fixed,
-    written: &Written,
+    state: &State,
     request: &ReadRequest,
 ) -> Result<Result<List<ByteList>, Code>, NoMemory>
-    ensures { IfOk result (λ answer. answer ≡ read_result (control_of fixed.now written.now) request.now) }
+    ensures { IfOk result (λ answer. answer ≡ read_result (control_in state.now) request.now) }
 {
-    if request.device_id != fixed.device {
+    if request.device_id != state.fixed.device {
         return Ok(Err(Code::NotFound));
     }
-    let Some(program) = &fixed.program else {
+    let Some(program) = &state.fixed.program else {
         return Ok(Err(Code::FailedPrecondition));
     };
-    written.read(alloc, program, request.entities.as_slice())
+    state
+        .written
+        .read(alloc, program, request.entities.as_slice())
 }
 
 fn read_reply(alloc: Global, answer: Result<List<ByteList>, Code>) -> Result<Prepared, NoMemory>
     ensures answer { IfOk result (λ p. IsPrepared (read_reply answer) p) }
-    ensures nothing { IfOk result (λ p. WritesNothing p) }
+    ensures nothing { IfOk result (λ p. ChangesNothing p) }
 {
     match answer {
         Ok(messages) => Ok(Prepared {
             code: Code::Ok,
             messages,
+            notices: List::new(alloc),
             events: List::new(alloc),
-            written: None,
+            draft: Draft::Nothing,
         }),
         Err(code) => failure(alloc, code),
     }
@@ -151,7 +163,7 @@ fn read_reply(alloc: Global, answer: Result<List<ByteList>, Code>) -> Result<Pre
 // A message that is not read; one of the stream channel has no Status.
 fn unreadable(alloc: Global, method: u8) -> Result<Prepared, NoMemory>
     ensures answer { IfOk result (λ p. IsPrepared (unreadable method) p) }
-    ensures nothing { IfOk result (λ p. WritesNothing p) }
+    ensures nothing { IfOk result (λ p. ChangesNothing p) }
 {
     if method == 5 {
         return Ok(bare(alloc, Code::InvalidArgument));
@@ -160,47 +172,49 @@ fn unreadable(alloc: Global, method: u8) -> Result<Prepared, NoMemory>
 }
 
 // A code without a message.
-fn bare(alloc: Global, code: Code) -> Prepared
+pub(crate) fn bare(alloc: Global, code: Code) -> Prepared
     ensures answer { IsPrepared (plain code []) result }
-    ensures nothing { WritesNothing result }
+    ensures nothing { ChangesNothing result }
 {
     Prepared {
         code,
         messages: List::new(alloc),
+        notices: List::new(alloc),
         events: List::new(alloc),
-        written: None,
+        draft: Draft::Nothing,
     }
 }
 
 fn capabilities(alloc: Global) -> Result<Prepared, NoMemory>
     ensures answer { IfOk result (λ p. IsPrepared (plain Code.Ok (capabilities_bytes ∷ [])) p) }
-    ensures nothing { IfOk result (λ p. WritesNothing p) }
+    ensures nothing { IfOk result (λ p. ChangesNothing p) }
 {
     Ok(Prepared {
         code: Code::Ok,
         messages: messages::of_capabilities(alloc)?,
+        notices: List::new(alloc),
         events: List::new(alloc),
-        written: None,
+        draft: Draft::Nothing,
     })
 }
 
 // The answer to a lane's call.
 fn answer(
     alloc: Global,
-    fixed: &Fixed,
-    written: &Written,
+    state: &State,
     lane: u16,
     number: u32,
     call: &Call,
 ) -> Result<Prepared, NoMemory>
-    ensures prepared { IfOk result (λ p. IsPrepared (answer_to (control_of fixed.now written.now) lane number call.now) p) }
-    ensures leads { IfOk result (λ p. Leads fixed.now (control_of fixed.now written.now) p.events p.written) }
+    ensures prepared { IfOk result (λ p. IsPrepared (answer_to (control_in state.now) lane number call.now) p) }
+    ensures leads { IfOk result (λ p. Leads state.now p.events p.draft) }
 {
     match call {
-        Call::Write(request) => write(alloc, fixed, written, lane, number, request),
-        Call::Read(request) => read_reply(alloc, read(alloc, fixed, written, request)?),
+        Call::Write(request) => write(alloc, state, lane, number, request),
+        Call::Read(request) => read_reply(alloc, read(alloc, state, request)?),
         Call::Set(_) | Call::Get(_) => failure(alloc, Code::Unimplemented),
-        Call::Stream(_) | Call::Leave => Ok(bare(alloc, Code::Unimplemented)),
+        Call::Stream(message) => stream::answer(alloc, state, lane, number, message),
+        Call::Leave => stream::leave(alloc, state, lane, number),
         Call::Capabilities => capabilities(alloc),
         Call::Unreadable(method) => unreadable(alloc, *method),
     }
@@ -209,18 +223,17 @@ fn answer(
 /// The answer to a lane's call, and what will be written once it takes effect. Its events may follow.
 pub(crate) fn prepare(
     alloc: Global,
-    fixed: &Fixed,
-    written: &Written,
+    state: &State,
     lane: u16,
     number: u32,
     call: &Call,
 ) -> Result<Prepared, NoMemory>
-    ensures prepared { IfOk result (λ p. IsPrepared (answer_to (control_of fixed.now written.now) lane number call.now) p) }
-    ensures leads { IfOk result (λ p. Leads fixed.now (control_of fixed.now written.now) p.events p.written) }
+    ensures prepared { IfOk result (λ p. IsPrepared (answer_to (control_in state.now) lane number call.now) p) }
+    ensures leads { IfOk result (λ p. Leads state.now p.events p.draft) }
     ensures few { IfOk result (λ p. length p.events ≤ 4096) }
     ensures available { IfOk result (λ p. is_unavailable p.code ≡ false) }
-    ensures may { IfOk result (λ p. Legal (control_of fixed.now written.now) p.events) }
+    ensures may { IfOk result (λ p. Legal (control_in state.now) p.events) }
 {
-    let prepared = answer(alloc, fixed, written, lane, number, call)?;
+    let prepared = answer(alloc, state, lane, number, call)?;
     Ok(prepared)
 }

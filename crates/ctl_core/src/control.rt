@@ -6,7 +6,8 @@ ghost use Rattle.switch_spec.specs.Answer.{answer_to};
 ghost use Rattle.switch_spec.specs.Control.{opened, applied, Legal};
 ghost use Rattle.switch_spec.specs.History.{is_unavailable};
 ghost use Rattle.ctl_core.specs.Prepared.{Leads, answer_of};
-ghost use Rattle.ctl_core.specs.State.{control_of, program_of};
+ghost use Rattle.ctl_core.specs.State.{program_of};
+ghost use Rattle.ctl_core.specs.Whole.{control_in};
 ghost use Rattle.switch_spec.specs.Meaning.{meaning};
 ghost use Rattle.ctl_core.specs.Core.{Handled, replied, without_memory};
 ghost use Rattle.ctl_core.specs.Packets.{verdict_of};
@@ -15,12 +16,15 @@ use crate::fixed::{Fixed, Program};
 use crate::packets::Verdict;
 use crate::prepared::Prepared;
 use crate::press::Press;
+use crate::state::{Draft, State};
 use crate::written::Written;
-use crate::{bridge, calls, packets};
+use crate::{calls, packets};
 use p4_types::calls::{Call, Reply};
 use p4_types::code::{Code, NoMemory};
 use p4_types::events::Start;
 use p4_types::list::List;
+use p4_types::messages::Uint128;
+use role_arbiter::{Roles, Session};
 use std::alloc::Global;
 use std::marker::Model;
 
@@ -28,19 +32,18 @@ use std::marker::Model;
 /// calls each caller has made.
 #[derive(Drop)]
 pub struct Control {
-    fixed: Fixed,
-    written: Written,
+    state: State,
     steps: u64,
     calls: [u32; 32],
 }
 
 impl Model for Control {
     ghost use Rattle.ctl_core.specs.Core.{Core};
-    ghost use Rattle.ctl_core.specs.State.{control_of};
+    ghost use Rattle.ctl_core.specs.Whole.{control_in};
 
     ghost Value = { Core };
 
-    ghost view = { λ c. record { control = control_of c.fixed c.written; steps = c.steps; calls = c.calls } };
+    ghost view = { λ c. record { control = control_in c.state; steps = c.steps; calls = c.calls } };
 }
 
 // The reply to a call for which there was no memory.
@@ -57,20 +60,20 @@ fn without_memory(alloc: Global, steps: u64) -> Reply
 }
 
 // Takes what will be written.
-fn take(fixed: &Fixed, written: &mut Written, draft: Option<Written>)
-    ensures { (list : spec.List Event) → Leads fixed.now (control_of fixed.now written.old) list draft → control_of fixed.now written.new ≡ applied (control_of fixed.now written.old) list }
+fn take(state: &mut State, draft: Draft)
+    ensures { (list : spec.List Event) → Leads state.old list draft → control_in state.new ≡ applied (control_in state.old) list }
 {
-    let _ = fixed;
-    if let Some(draft) = draft {
-        *written = draft;
+    match draft {
+        Draft::Nothing => {}
+        Draft::Written(written) => state.written = written,
+        Draft::Roles(roles) => state.roles = roles,
     }
 }
 
 // Hands the events of an answer on, and makes it take effect.
 fn complete<P: Press>(
     alloc: Global,
-    fixed: &Fixed,
-    written: &mut Written,
+    state: &mut State,
     steps: u64,
     prepared: Prepared,
     press: &mut P,
@@ -78,21 +81,21 @@ fn complete<P: Press>(
     requires steps { steps < 2 ^ 63 }
     requires few { length prepared.events ≤ 4096 }
     requires available { is_unavailable prepared.code ≡ false }
-    requires state { P.state press.old ≡ control_of fixed.now written.old }
-    requires may { Legal (control_of fixed.now written.old) prepared.events }
-    requires leads { Leads fixed.now (control_of fixed.now written.old) prepared.events prepared.written }
-    ensures handled { Handled (control_of fixed.now written.old) steps (P.given press.old) (answer_of prepared) result (control_of fixed.now written.new) (P.given press.new) }
-    ensures state { P.state press.new ≡ control_of fixed.now written.new }
+    requires state { P.state press.old ≡ control_in state.old }
+    requires may { Legal (control_in state.old) prepared.events }
+    requires leads { Leads state.old prepared.events prepared.draft }
+    ensures handled { Handled (control_in state.old) steps (P.given press.old) (answer_of prepared) result (control_in state.new) (P.given press.new) }
+    ensures state { P.state press.new ≡ control_in state.new }
 {
     let steps_after = steps + prepared.events.len() as u64;
     match press.push(prepared.events) {
         Err(_) => without_memory(alloc, steps),
         Ok(()) => {
-            take(fixed, written, prepared.written);
+            take(state, prepared.draft);
             Reply {
                 code: prepared.code,
                 messages: prepared.messages,
-                notices: List::new(alloc),
+                notices: prepared.notices,
                 steps: steps_after,
                 packet: None,
             }
@@ -103,11 +106,47 @@ fn complete<P: Press>(
 fn program(alloc: Global, start: &Start) -> Result<Option<Program>, NoMemory>
     ensures { IfOk result (λ p. p ≡ program_of start.now) }
 {
-    if start.bridge {
-        Ok(Some(bridge::program(alloc)?))
-    } else {
-        Ok(None)
+    if !start.bridge {
+        return Ok(None);
     }
+    let info = bridge_program::info(alloc)?;
+    Ok(Some(Program {
+        info,
+        defaults: bridge_program::defaults(alloc)?,
+    }))
+}
+
+// With the bridge, controller 0 starts as the primary of role 0.
+fn roles(alloc: Global, start: &Start) -> Result<Roles, NoMemory>
+    ensures { IfOk result (λ roles. roles ≡ (opened start.now).roles) }
+{
+    let mut roles = Roles::open(alloc)?;
+    if start.bridge {
+        roles.enter(Session {
+            caller: 0,
+            role: 0,
+            election_id: Uint128 { high: 0, low: 1 },
+            config: None,
+        });
+    }
+    Ok(roles)
+}
+
+fn state(alloc: Global, start: &Start) -> Result<State, NoMemory>
+    ensures { IfOk result (λ state. control_in state ≡ opened start.now) }
+{
+    let program = program(alloc, start)?;
+    let roles = roles(alloc, start)?;
+    Ok(State {
+        fixed: Fixed {
+            device: start.device,
+            cpu: start.cpu,
+            rows: start.rows,
+            program,
+        },
+        written: Written::open(alloc),
+        roles,
+    })
 }
 
 impl Control {
@@ -118,13 +157,7 @@ impl Control {
         ensures calls { IfOk result (λ c. c.calls ≡ replicate 32 0) }
     {
         Ok(Control {
-            fixed: Fixed {
-                device: start.device,
-                cpu: start.cpu,
-                rows: start.rows,
-                program: program(alloc, start)?,
-            },
-            written: Written::open(alloc),
+            state: state(alloc, start)?,
             steps: 0,
             calls: [0; 32],
         })
@@ -150,16 +183,9 @@ impl Control {
     {
         let number = self.calls[caller as usize] + 1;
         self.calls[caller as usize] = number;
-        let prepared = calls::prepare(alloc, &self.fixed, &self.written, caller, number, call);
+        let prepared = calls::prepare(alloc, &self.state, caller, number, call);
         let reply = match prepared {
-            Ok(prepared) => complete(
-                alloc,
-                &self.fixed,
-                &mut self.written,
-                self.steps,
-                prepared,
-                press,
-            ),
+            Ok(prepared) => complete(alloc, &mut self.state, self.steps, prepared, press),
             Err(NoMemory) => without_memory(alloc, self.steps),
         };
         self.steps = reply.steps;
@@ -198,6 +224,6 @@ impl Control {
     pub fn carry(&self, alloc: Global, port: u16, packet: &[u8]) -> Result<Verdict, NoMemory>
         ensures { IfOk result (λ v. verdict_of v ≡ meaning self.now.control port packet.now) }
     {
-        packets::carry(alloc, &self.fixed, &self.written, port, packet)
+        packets::carry(alloc, &self.state, port, packet)
     }
 }

@@ -1,7 +1,6 @@
 //! The control of the switch: its state, and the answers to calls.
 #![tactic(auto)]
 
-mod bridge;
 mod calls;
 mod control;
 mod fixed;
@@ -9,6 +8,8 @@ mod messages;
 mod packets;
 mod prepared;
 mod press;
+mod state;
+mod stream;
 mod writes;
 mod written;
 

@@ -5,9 +5,10 @@ ghost use Rattle.switch_spec.specs.Control.{default_in, default_of};
 ghost use Rattle.switch_spec.specs.Meaning.{key_of, packet_in, meaning, dropped};
 ghost use Rattle.switch_spec.specs.Bridge.{bridge_table};
 ghost use Rattle.ctl_core.specs.Packets.{verdict_of, sent_by, acted_by, forwarded_by};
-ghost use Rattle.ctl_core.specs.State.{control_of};
+ghost use Rattle.ctl_core.specs.Whole.{control_in};
 
-use crate::fixed::{Fixed, Program};
+use crate::fixed::Program;
+use crate::state::State;
 use crate::written::Written;
 use p4_types::code::NoMemory;
 use p4_types::list::{ByteList, List};
@@ -33,6 +34,13 @@ pub struct Verdict {
     /// What went to a controller's lane, or to none.
     pub cpu: List<(Option<u16>, ByteList)>,
     pub hits: List<HitMark>,
+}
+
+/// The port at which packets go to the primary of role 0, and its lane, if there is one.
+#[derive(Clone, Copy)]
+pub(crate) struct Cpu {
+    pub(crate) port: u16,
+    pub(crate) primary: Option<u16>,
 }
 
 fn dropped(alloc: Global, fate: u8, hits: List<HitMark>) -> Verdict
@@ -71,15 +79,20 @@ fn packet_in(alloc: Global, packet: &[u8]) -> Result<ByteList, NoMemory>
     write_message(alloc, &message)
 }
 
-// Sends a packet to the primary of role 0, which is controller 0 as long as there is a program.
-fn to_controller(alloc: Global, hits: List<HitMark>, packet: &[u8]) -> Result<Verdict, NoMemory>
-    ensures { IfOk result (λ v. verdict_of v ≡ record (dropped 0 hits) { cpu = (Some 0, packet_in packet.now) ∷ [] }) }
+// Sends a packet to a controller, or to none.
+fn to_controller(
+    alloc: Global,
+    controller: Option<u16>,
+    hits: List<HitMark>,
+    packet: &[u8],
+) -> Result<Verdict, NoMemory>
+    ensures { IfOk result (λ v. verdict_of v ≡ record (dropped 0 hits) { cpu = (controller, packet_in packet.now) ∷ [] }) }
 {
     let message = packet_in(alloc, packet)?;
     Ok(Verdict {
         fate: 0,
         outputs: List::new(alloc),
-        cpu: only(alloc, (Some(0), message))?,
+        cpu: only(alloc, (controller, message))?,
         hits,
     })
 }
@@ -113,7 +126,7 @@ fn port_of(call: &ActionCall) -> u16
 
 fn sent_to(
     alloc: Global,
-    cpu: u16,
+    cpu: Cpu,
     port: u16,
     hits: List<HitMark>,
     packet: &[u8],
@@ -123,15 +136,15 @@ fn sent_to(
     if port == DROP_PORT {
         return Ok(dropped(alloc, 1, hits));
     }
-    if port == cpu {
-        return to_controller(alloc, hits, packet);
+    if port == cpu.port {
+        return to_controller(alloc, cpu.primary, hits, packet);
     }
     to_port(alloc, port, hits, packet)
 }
 
 fn acted(
     alloc: Global,
-    cpu: u16,
+    cpu: Cpu,
     call: Option<&ActionCall>,
     hits: List<HitMark>,
     packet: &[u8],
@@ -191,7 +204,7 @@ fn hit(alloc: Global, seq: u64) -> Result<List<HitMark>, NoMemory>
 
 fn forwarded(
     alloc: Global,
-    cpu: u16,
+    cpu: Cpu,
     program: &Program,
     written: &Written,
     packet: &[u8],
@@ -214,16 +227,19 @@ fn forwarded(
 #[tactic(auto, unfolding(switch_spec::specs::Meaning::meaning))]
 pub(crate) fn carry(
     alloc: Global,
-    fixed: &Fixed,
-    written: &Written,
+    state: &State,
     port: u16,
     packet: &[u8],
 ) -> Result<Verdict, NoMemory>
-    ensures { IfOk result (λ v. verdict_of v ≡ meaning (control_of fixed.now written.now) port packet.now) }
+    ensures { IfOk result (λ v. verdict_of v ≡ meaning (control_in state.now) port packet.now) }
 {
     let _ = port;
-    match &fixed.program {
-        Some(program) => forwarded(alloc, fixed.cpu, program, written, packet),
-        None => Ok(dropped(alloc, 2, List::new(alloc))),
-    }
+    let Some(program) = &state.fixed.program else {
+        return Ok(dropped(alloc, 2, List::new(alloc)));
+    };
+    let cpu = Cpu {
+        port: state.fixed.cpu,
+        primary: state.roles.primary(0),
+    };
+    forwarded(alloc, cpu, program, &state.written, packet)
 }

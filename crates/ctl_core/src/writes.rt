@@ -8,6 +8,7 @@ ghost use Rattle.ctl_core.specs.Prepared.{IsPrepared};
 
 use crate::messages;
 use crate::prepared::Prepared;
+use crate::state::Draft;
 use p4_types::code::{Cause, Code, NoMemory};
 use p4_types::events::{Event, Origin};
 use p4_types::list::{ByteList, List};
@@ -100,7 +101,8 @@ fn continued(alloc: Global, by: Origin, outcomes: Outcomes) -> Result<Prepared, 
             code: Code::Ok,
             messages: empty_message(alloc)?,
             events: steps(alloc, by, changes(alloc, outcomes)?)?,
-            written: None,
+            notices: List::new(alloc),
+            draft: Draft::Nothing,
         });
     }
     let status = messages::of_continued(alloc, outcomes.as_slice())?;
@@ -108,7 +110,8 @@ fn continued(alloc: Global, by: Origin, outcomes: Outcomes) -> Result<Prepared, 
         code: Code::Unknown,
         messages: messages::only(alloc, status)?,
         events: steps(alloc, by, changes(alloc, outcomes)?)?,
-        written: None,
+        notices: List::new(alloc),
+        draft: Draft::Nothing,
     })
 }
 
@@ -121,7 +124,8 @@ fn all_or_nothing(alloc: Global, by: Origin, outcomes: Outcomes) -> Result<Prepa
             code: Code::Ok,
             messages: empty_message(alloc)?,
             events: batch(alloc, by, changes(alloc, outcomes)?)?,
-            written: None,
+            notices: List::new(alloc),
+            draft: Draft::Nothing,
         });
     }
     let status = messages::of_batch(alloc, outcomes.as_slice())?;
@@ -129,7 +133,8 @@ fn all_or_nothing(alloc: Global, by: Origin, outcomes: Outcomes) -> Result<Prepa
         code: Code::Unknown,
         messages: messages::only(alloc, status)?,
         events: List::new(alloc),
-        written: None,
+        notices: List::new(alloc),
+        draft: Draft::Nothing,
     })
 }
 

@@ -1,6 +1,7 @@
 //! What writes change: the entries, the changed default actions and the numbers that are drawn next.
 ghost use Rattle.std.specs.Prelude.{◌≡◌, ◌≤◌, ◌-◌, ◌^◌, [], ◌∷◌, ◌++◌, IfOk, IfErr, OnOk, OnErr, filter, fold, nat_lt, length};
-ghost use Rattle.switch_spec.specs.Control.{as_default, with_default, target_cause, change_applied, scope_of, outcome};
+ghost use Rattle.switch_spec.specs.Control.{as_default, with_default, target_cause, change_applied, scope_in, outcome};
+ghost use Rattle.role_arbiter.specs.State.{primary_of};
 ghost use Rattle.switch_spec.specs.Entries.{best, insert_cause, absence_cause, modified, deleted, slots_drawn};
 ghost use Rattle.switch_spec.specs.Answer.{state_after, outcomes};
 ghost use Rattle.std.specs.Option.{option_map};
@@ -13,6 +14,7 @@ use p4_types::info::Table;
 use p4_types::list::{ByteList, List};
 use p4_types::messages::{Entity, Update};
 use p4_types::table::{ActionCall, Change, DefaultAction, Entry, EntryChange, EntryName, Room};
+use role_arbiter::Roles;
 use std::alloc::Global;
 use std::marker::Model;
 use std::mem;
@@ -147,6 +149,19 @@ pub(crate) fn copy_defaults(
         })?;
     }
     Ok(copy)
+}
+
+// The ids that a role's primary may write, if its role has a configuration.
+fn scope_of(roles: &Roles, role: u64) -> Option<&[u32]>
+    ensures { option_map (λ ids. ids.now) result ≡ scope_in (primary_of roles.now role) }
+{
+    match roles.primary_session(role) {
+        None => None,
+        Some(primary) => match &primary.config {
+            None => None,
+            Some(ids) => Some(ids.as_slice()),
+        },
+    }
 }
 
 // How many slots an INSERT into the table draws.
@@ -284,9 +299,15 @@ impl Written {
     /// Makes a change of the target plane, unless it is refused or there is no memory: then what was written
     /// may be lost.
     #[tactic(auto, unfolding(switch_spec::specs::Control::change_applied))]
-    fn change(&mut self, alloc: Global, fixed: &Fixed, change: &Change) -> Result<(), StoreError>
-        ensures refused { Refuses result (target_cause (plane_of fixed.now.program self.old) (control_of fixed.now self.old) change.now) }
-        ensures ok { OnOk result (control_of fixed.now self.new ≡ change_applied (control_of fixed.now self.old) change.now) }
+    fn change(
+        &mut self,
+        alloc: Global,
+        fixed: &Fixed,
+        roles: &Roles,
+        change: &Change,
+    ) -> Result<(), StoreError>
+        ensures refused { Refuses result (target_cause (plane_of fixed.now.program self.old) (control_of fixed.now self.old roles.now) change.now) }
+        ensures ok { OnOk result (control_of fixed.now self.new roles.now ≡ change_applied (control_of fixed.now self.old roles.now) change.now) }
         ensures kept { IfErr result (λ e. IsRefusal e → self.new ≡ self.old) }
     {
         let Some(program) = &fixed.program else {
@@ -316,13 +337,12 @@ impl Written {
         &mut self,
         alloc: Global,
         fixed: &Fixed,
-        scope: Option<&[u32]>,
+        roles: &Roles,
         role: u64,
         update: &Update,
     ) -> Result<Result<Change, Cause>, NoMemory>
-        requires { option_map (λ ids. ids.now) scope ≡ scope_of (control_of fixed.now self.old) role }
-        ensures outcome { IfOk result (λ o. o ≡ outcome (control_of fixed.now self.old) role update.now) }
-        ensures after { IfOk result (λ o. control_of fixed.now self.new ≡ state_after (control_of fixed.now self.old) o) }
+        ensures outcome { IfOk result (λ o. o ≡ outcome (control_of fixed.now self.old roles.now) role update.now) }
+        ensures after { IfOk result (λ o. control_of fixed.now self.new roles.now ≡ state_after (control_of fixed.now self.old roles.now) o) }
     {
         let Some(program) = &fixed.program else {
             return Ok(Err(Cause {
@@ -330,12 +350,12 @@ impl Written {
                 code: Code::FailedPrecondition,
             }));
         };
-        let change = match resolve(alloc, &program.info, scope, update) {
+        let change = match resolve(alloc, &program.info, scope_of(roles, role), update) {
             Ok(change) => change,
             Err(ResolveError::Refused(cause)) => return Ok(Err(cause)),
             Err(ResolveError::NoMemory) => return Err(NoMemory),
         };
-        match self.change(alloc, fixed, &change) {
+        match self.change(alloc, fixed, roles, &change) {
             Ok(()) => Ok(Ok(change)),
             Err(StoreError::Refused(cause)) => Ok(Err(cause)),
             Err(StoreError::NoMemory) => Err(NoMemory),
@@ -347,17 +367,16 @@ impl Written {
         &mut self,
         alloc: Global,
         fixed: &Fixed,
-        scope: Option<&[u32]>,
+        roles: &Roles,
         role: u64,
         updates: &[Update],
     ) -> Result<List<Result<Change, Cause>>, NoMemory>
-        requires { option_map (λ ids. ids.now) scope ≡ scope_of (control_of fixed.now self.old) role }
-        ensures outcomes { IfOk result (λ list. list ≡ outcomes (control_of fixed.now self.old) role updates.now) }
-        ensures after { IfOk result (λ list. control_of fixed.now self.new ≡ fold state_after (control_of fixed.now self.old) list) }
+        ensures outcomes { IfOk result (λ list. list ≡ outcomes (control_of fixed.now self.old roles.now) role updates.now) }
+        ensures after { IfOk result (λ list. control_of fixed.now self.new roles.now ≡ fold state_after (control_of fixed.now self.old roles.now) list) }
     {
         let mut list = List::new(alloc);
         for update in updates {
-            list.push(self.update(alloc, fixed, scope, role, update)?)?;
+            list.push(self.update(alloc, fixed, roles, role, update)?)?;
         }
         Ok(list)
     }

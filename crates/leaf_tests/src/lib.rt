@@ -14,8 +14,14 @@ mod fields;
 #[cfg(test)]
 mod frames;
 #[cfg(test)]
+mod header_blocks;
+#[cfg(test)]
 mod messages;
 #[cfg(test)]
+mod outboxes;
+#[cfg(test)]
 mod roles;
+#[cfg(test)]
+mod sample_lists;
 #[cfg(test)]
 mod vectors;

@@ -27,10 +27,27 @@ pub struct Origin {
 /// One event of the published list.
 #[derive(Drop)]
 pub enum Event {
+    /// The caller's session is made, or takes the role, the election id and the configuration: the
+    /// ids that the role may write, or none where it may write all.
+    Arbitrate {
+        by: Origin,
+        config: Option<List<u32>>,
+    },
+    /// The caller's session ends.
+    Leave {
+        caller: u16,
+        call: u32,
+    },
     /// One change of the target plane.
-    Change { by: Origin, change: Change },
+    Change {
+        by: Origin,
+        change: Change,
+    },
     /// Changes of the target plane that are one step.
-    Batch { by: Origin, changes: List<Change> },
+    Batch {
+        by: Origin,
+        changes: List<Change>,
+    },
     /// The end of the list. It is no step.
     Close,
 }

@@ -27,4 +27,8 @@ pub enum TapeRecord {
         port: u16,
         packet: ByteList,
     },
+    /// The end of a controller's stream.
+    Leave {
+        lane: u16,
+    },
 }

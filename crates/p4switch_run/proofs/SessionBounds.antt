@@ -1,29 +1,28 @@
 -- How large the numbers of a run can be, and how its turns go on.
-use Rattle.std.proofs.Common.{◌≡◌, ℕ, ◌+◌, ◌<◌, ◌⊎◌, List, [], ◌∷◌, ◌++◌, refl, ap, ◌∙◌, sym, subst, inl, inr, arith, length-append}
+use Rattle.std.proofs.Common.{◌≡◌, ℕ, ◌+◌, ◌<◌, List, [], ◌∷◌, ◌++◌, refl, ap, ◌∙◌, sym, subst, inl, inr, arith, length-append}
 use Rattle.std.proofs.lemmas.List.Sums.{fold-append}
 use Rattle.std.proofs.lemmas.List.{map-append}
 use Rattle.p4_types.specs.declared.events.Start.{Start}
 use Rattle.p4_types.specs.declared.journal.Entry.{Entry}
 use Rattle.p4_types.specs.declared.records.Record.{Record}
 use Rattle.p4_types.specs.declared.tape.TapeRecord.{TapeRecord}
-use Rattle.p4_types.specs.declared.tape.TapeRecord.TheVariants.{Call, Packet}
-use Rattle.switch_spec.specs.Answer.{LaneCall}
-use Rattle.switch_spec.specs.Play.{Played, Turn, Answers, Refuses, Carries, item_of, begun, next_call, play}
+use Rattle.p4_types.specs.declared.tape.TapeRecord.TheVariants.{Call, Packet, Leave}
+use Rattle.switch_spec.specs.Answer.{LaneCall, Asks, Leaves}
+use Rattle.switch_spec.specs.Play.{Played, Turn, Answers, Refuses, Carries, call_item, item_of, begun, next_call, play}
 use Rattle.switch_spec.proofs.Answers.{answer_sound}
-use Rattle.p4switch_run.specs.Session.{State, played_of, Plays, IsPlayed, IsWithin, HasRoom}
+use Rattle.p4switch_run.specs.Session.{State, played_of, PlaysCall, Plays, IsPlayed, IsWithin, HasRoom}
 
 -- one turn more
 within_play : (n : ℕ) (p : Played) (turn : Turn) → IsWithin n p → IsWithin (n + 1) (play p turn)
 unfolding play
-within_play n p (Answers lane method message) h =
-    let call : LaneCall = record { method = method; message = message } in
+within_play n p (Answers lane call) h =
     let sound = answer_sound p.control lane (next_call lane p) call in
     record {
       steps = omega (arith, h.steps, sound.few_steps);
       calls = omega (arith, h.calls, length-append {A = Entry});
       packets = omega (arith, h.packets);
     }
-within_play n p (Refuses lane method message) h = record {
+within_play n p (Refuses lane call) h = record {
   steps = omega (arith, h.steps);
   calls = omega (arith, h.calls, length-append {A = Entry});
   packets = omega (arith, h.packets);
@@ -47,12 +46,13 @@ pub record OneTurn (p : Played) (item : TapeRecord) (q : Played) : Type 0 where
   pub item_is : item_of turn ≡ item
   pub played_is : q ≡ play p turn
 
-call_turn : (lane method : ℕ) (message : List ℕ) (p q : Played) → (q ≡ play p (Answers lane method message)) ⊎ (q ≡ play p (Refuses lane method message)) → OneTurn p (Call lane method message) q
-call_turn lane method message p q (inl is) = record { turn = Answers lane method message; item_is = refl; played_is = is }
-call_turn lane method message p q (inr is) = record { turn = Refuses lane method message; item_is = refl; played_is = is }
+call_turn : (lane : ℕ) (call : LaneCall) (p q : Played) → PlaysCall p lane call q → OneTurn p (call_item lane call) q
+call_turn lane call p q (inl is) = record { turn = Answers lane call; item_is = refl; played_is = is }
+call_turn lane call p q (inr is) = record { turn = Refuses lane call; item_is = refl; played_is = is }
 
 one_turn : (item : TapeRecord) (p q : Played) → Plays p item q → OneTurn p item q
-one_turn (Call lane method message) p q h = call_turn lane method message p q h
+one_turn (Call lane method message) p q h = call_turn lane (Asks method message) p q h
+one_turn (Leave lane) p q h = call_turn lane Leaves p q h
 one_turn (Packet lane port packet) p q h = record { turn = Carries lane port packet; item_is = refl; played_is = h }
 
 pub within_more : (n : ℕ) (item : TapeRecord) (p q : Played) → Plays p item q → IsWithin n p → IsWithin (n + 1) q

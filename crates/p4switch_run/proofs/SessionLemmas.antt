@@ -1,5 +1,5 @@
 -- A call that was handled, with its entry in the journal, is one more turn of the run.
-use Rattle.std.proofs.Common.{◌≡◌, ℕ, ◌+◌, ◌<◌, ◌==◌, Bool, true, false, cond, List, [], ◌∷◌, ◌++◌, length, drop, slice_index, set, refl, ap, ◌∙◌, sym, subst, inl, inr, arith, add-zero, length-set}
+use Rattle.std.proofs.Common.{OnOk, Result, Ok, Err, ◌≡◌, ℕ, ◌+◌, ◌<◌, ◌==◌, Bool, true, false, cond, List, [], ◌∷◌, ◌++◌, length, drop, slice_index, set, refl, ap, ◌∙◌, sym, subst, inl, inr, arith, add-zero, length-set}
 use Rattle.std.proofs.lemmas.List.{append-nil, get_or-set_same, get_or-set_other}
 use Rattle.std.proofs.Math.Seq.{drop-append_seam}
 use Rattle.std.proofs.lemmas.List.Sums.{sum_by-append}
@@ -12,17 +12,15 @@ use Rattle.p4_types.specs.declared.events.Event.{Event}
 use Rattle.p4_types.specs.declared.journal.Entry.{Entry}
 use Rattle.p4_types.specs.declared.journal.Step.{Step}
 use Rattle.p4_types.specs.declared.records.Record.{Record}
-use Rattle.p4_types.specs.declared.tape.TapeRecord.TheVariants.{Call}
 use Rattle.p4_types.specs.declared.tape.Who.TheVariants.{Worker}
-use Rattle.p4v1_read.specs.Calls.{call_of}
 use Rattle.ctl_core.specs.Core.{HandledBy, IsAnswered, IsRefused, replied, without_memory}
-use Rattle.switch_spec.specs.Answer.{Answer, answer, answer_to}
+use Rattle.switch_spec.specs.Answer.{Answer, LaneCall, called, answer, answer_to}
 use Rattle.switch_spec.specs.Control.{Control, applied}
 use Rattle.switch_spec.specs.History.{is_unavailable, step_of, steps_of, reply_of}
 use Rattle.switch_spec.specs.Meaning.{meaning, record_of}
 use Rattle.switch_spec.specs.Play.{Played, Answers, Refuses, Carries, next_call, next_packet, play}
 use Rattle.switch_spec.proofs.Answers.{answer_to_sound}
-use Rattle.p4switch_run.specs.Session.{State, played_of, IsSession, IsHandled, Plays}
+use Rattle.p4switch_run.specs.Session.{State, played_of, IsSession, IsHandled, IsEntered, entry_of, PlaysCall}
 
 -- a run by its parts
 abbrev pub run_of : Control → ℕ → List Entry → List Record → Played
@@ -32,18 +30,12 @@ same_run : (c d : Control) (n m : ℕ) (j k : List Entry) (r q : List Record) �
 same_run c d n m j k r q e f g h =
     ap (λ x. run_of x n j r) e ∙ ap (λ x. run_of d x j r) f ∙ ap (λ x. run_of d m x r) g ∙ ap (λ x. run_of d m k x) h
 
-abbrev pub entry_of : ℕ → ℕ → List Step → Reply → Entry
-entry_of lane k steps reply = record { lane = lane; call = k; steps = steps; reply = reply }
-
 same_entry : (lane k l : ℕ) (s t : List Step) (a b : Reply) → k ≡ l → s ≡ t → a ≡ b → entry_of lane k s a ≡ entry_of lane l t b
 same_entry lane k l s t a b e f g = ap (λ x. entry_of lane x s a) e ∙ ap (λ x. entry_of lane l x a) f ∙ ap (λ x. entry_of lane l t x) g
 
 -- the state with the call's entry in the journal
 abbrev pub with_entry : State → Entry → State
 with_entry s entry = record s { journal = s.journal ++ entry ∷ [] }
-
-abbrev pub with_journal : State → List Entry → State
-with_journal s journal = record s { journal = journal }
 
 -- the number of a lane's next call is that of its calls and one
 next_is : (s : State) (lane : ℕ) → IsSession s → lane < 32 → slice_index s.core.calls lane + 1 ≡ next_call lane (played_of s)
@@ -56,16 +48,16 @@ new_steps old new added is = ap (λ l. filter_map step_of (drop (length old) l))
 abbrev pub with_steps : Reply → ℕ → Reply
 with_steps r n = record r { steps = n }
 
-answered_plays : (lane method : ℕ) (message : List ℕ) (reply : Reply) (old new : State) (k : ℕ) (steps : List Step) → IsSession old → lane < 32
-    → IsHandled lane (call_of method message) reply old new → k ≡ next_call lane (played_of old) → steps ≡ filter_map step_of (drop (length old.events) new.events)
-    → IsAnswered old.core.control old.core.steps old.events (answer_to old.core.control lane (slice_index old.core.calls lane + 1) (call_of method message)) reply new.core.control new.events
-    → played_of (with_entry new (entry_of lane k steps reply)) ≡ play (played_of old) (Answers lane method message)
+answered_plays : (lane : ℕ) (call : LaneCall) (reply : Reply) (old new : State) (k : ℕ) (steps : List Step) → IsSession old → lane < 32
+    → IsHandled lane (called call) reply old new → k ≡ next_call lane (played_of old) → steps ≡ filter_map step_of (drop (length old.events) new.events)
+    → IsAnswered old.core.control old.core.steps old.events (answer_to old.core.control lane (slice_index old.core.calls lane + 1) (called call)) reply new.core.control new.events
+    → played_of (with_entry new (entry_of lane k steps reply)) ≡ play (played_of old) (Answers lane call)
 unfolding play answer
-answered_plays lane method message reply old new k steps session below h k_is steps_are a =
+answered_plays lane call reply old new k steps session below h k_is steps_are a =
     let next : ℕ = next_call lane (played_of old) in
-    let f : ℕ → Answer = λ n. answer_to old.core.control lane n (call_of method message) in
+    let f : ℕ → Answer = λ n. answer_to old.core.control lane n (called call) in
     let is : f (slice_index old.core.calls lane + 1) ≡ f next = ap f (next_is old lane session below) in
-    let all : length (steps_of (f next).events) ≡ length (f next).events = (answer_to_sound (call_of method message) old.core.control lane next).all_steps in
+    let all : length (steps_of (f next).events) ≡ length (f next).events = (answer_to_sound (called call) old.core.control lane next).all_steps in
     let reply_is : reply ≡ reply_of old.core.steps (f next) =
     a.reply_is ∙ ap (λ x. replied old.core.steps x) is ∙ ap (λ n. with_steps (replied old.core.steps (f next)) (old.core.steps + n)) (sym all) in
     same_run _ _ _ _ _ _ _ _
@@ -76,12 +68,12 @@ answered_plays lane method message reply old new k steps session below h k_is st
     (steps_are ∙ new_steps old.events new.events _ (a.handed ∙ ap (λ x. old.events ++ x.events) is)) reply_is))
     h.records
 
-refused_plays : (lane method : ℕ) (message : List ℕ) (reply : Reply) (old new : State) (k : ℕ) (steps : List Step)
-    → IsHandled lane (call_of method message) reply old new → k ≡ next_call lane (played_of old) → steps ≡ filter_map step_of (drop (length old.events) new.events)
+refused_plays : (lane : ℕ) (call : LaneCall) (reply : Reply) (old new : State) (k : ℕ) (steps : List Step)
+    → IsHandled lane (called call) reply old new → k ≡ next_call lane (played_of old) → steps ≡ filter_map step_of (drop (length old.events) new.events)
     → IsRefused old.core.control old.core.steps old.events reply new.core.control new.events
-    → played_of (with_entry new (entry_of lane k steps reply)) ≡ play (played_of old) (Refuses lane method message)
+    → played_of (with_entry new (entry_of lane k steps reply)) ≡ play (played_of old) (Refuses lane call)
 unfolding play
-refused_plays lane method message reply old new k steps h k_is steps_are r =
+refused_plays lane call reply old new k steps h k_is steps_are r =
     same_run _ _ _ _ _ _ _ _
     r.control
     (h.steps ∙ ap (λ x. x.steps) r.reply_is)
@@ -90,12 +82,12 @@ refused_plays lane method message reply old new k steps h k_is steps_are r =
     (steps_are ∙ new_steps old.events new.events [] (r.handed ∙ sym (append-nil old.events))) r.reply_is))
     h.records
 
-plays_by : (b : Bool) (lane method : ℕ) (message : List ℕ) (reply : Reply) (old new : State) (k : ℕ) (steps : List Step) → IsSession old → lane < 32
-    → IsHandled lane (call_of method message) reply old new → k ≡ next_call lane (played_of old) → steps ≡ filter_map step_of (drop (length old.events) new.events)
-    → HandledBy b old.core.control old.core.steps old.events (answer_to old.core.control lane (slice_index old.core.calls lane + 1) (call_of method message)) reply new.core.control new.events
-    → Plays (played_of old) (Call lane method message) (played_of (with_entry new (entry_of lane k steps reply)))
-plays_by true lane method message reply old new k steps session below h k_is steps_are r = inr (refused_plays lane method message reply old new k steps h k_is steps_are r)
-plays_by false lane method message reply old new k steps session below h k_is steps_are a = inl (answered_plays lane method message reply old new k steps session below h k_is steps_are a)
+plays_by : (b : Bool) (lane : ℕ) (call : LaneCall) (reply : Reply) (old new : State) (k : ℕ) (steps : List Step) → IsSession old → lane < 32
+    → IsHandled lane (called call) reply old new → k ≡ next_call lane (played_of old) → steps ≡ filter_map step_of (drop (length old.events) new.events)
+    → HandledBy b old.core.control old.core.steps old.events (answer_to old.core.control lane (slice_index old.core.calls lane + 1) (called call)) reply new.core.control new.events
+    → PlaysCall (played_of old) lane call (played_of (with_entry new (entry_of lane k steps reply)))
+plays_by true lane call reply old new k steps session below h k_is steps_are r = inr (refused_plays lane call reply old new k steps h k_is steps_are r)
+plays_by false lane call reply old new k steps session below h k_is steps_are a = inl (answered_plays lane call reply old new k steps session below h k_is steps_are a)
 
 -- the number of calls that stands for the lane now
 pub number_is : (lane : ℕ) (old new : State) (call : calls.Call) (reply : Reply) → IsSession old → lane < 32 → IsHandled lane call reply old new
@@ -104,12 +96,12 @@ number_is lane old new call reply session below h =
     ap (λ c. slice_index c lane) h.calls ∙ get_or-set_same old.core.calls lane _ 0 (omega (arith, session.wide)) ∙ next_is old lane session below
 
 -- the run with the call's entry is one turn more
-pub call_plays : (lane method : ℕ) (message : List ℕ) (reply : Reply) (old new : State) (k : ℕ) (steps : List Step) → IsSession old → lane < 32
-    → IsHandled lane (call_of method message) reply old new → k ≡ slice_index new.core.calls lane → steps ≡ filter_map step_of (drop (length old.events) new.events)
-    → Plays (played_of old) (Call lane method message) (played_of (with_entry new (entry_of lane k steps reply)))
-call_plays lane method message reply old new k steps session below h k_is steps_are =
-    plays_by (is_unavailable reply.code) lane method message reply old new k steps session below h
-    (k_is ∙ number_is lane old new (call_of method message) reply session below h) steps_are h.handled
+pub call_plays : (lane : ℕ) (call : LaneCall) (reply : Reply) (old new : State) (k : ℕ) (steps : List Step) → IsSession old → lane < 32
+    → IsHandled lane (called call) reply old new → k ≡ slice_index new.core.calls lane → steps ≡ filter_map step_of (drop (length old.events) new.events)
+    → PlaysCall (played_of old) lane call (played_of (with_entry new (entry_of lane k steps reply)))
+call_plays lane call reply old new k steps session below h k_is steps_are =
+    plays_by (is_unavailable reply.code) lane call reply old new k steps session below h
+    (k_is ∙ number_is lane old new (called call) reply session below h) steps_are h.handled
 
 one_more : (b : Bool) → 0 + cond b 1 0 ≡ cond b 1 0
 one_more true = refl
@@ -150,17 +142,28 @@ call_session lane call reply old new entry session below h of_lane = record {
       ∙ ap (λ j. count_by (λ e. e.lane == place) (j ++ entry ∷ [])) (sym h.journal);
 }
 
--- the same with the journal as it was computed
-pub call_turn : (lane method : ℕ) (message : List ℕ) (reply : Reply) (old mid : State) (k before : ℕ) (steps : List Step) (journal : List Entry) → IsSession old → lane < 32
-    → IsHandled lane (call_of method message) reply old mid → k ≡ slice_index mid.core.calls lane → before ≡ length old.events
-    → steps ≡ filter_map step_of (drop before mid.events) → journal ≡ mid.journal ++ entry_of lane k steps reply ∷ []
-    → Plays (played_of old) (Call lane method message) (played_of (with_journal mid journal)) × IsSession (with_journal mid journal)
-call_turn lane method message reply old mid k before steps journal session below h k_is before_is steps_are journal_is =
-    let P : List Entry → Type 0 = λ j. Plays (played_of old) (Call lane method message) (played_of (with_journal mid j)) × IsSession (with_journal mid j) in
-    subst P (sym journal_is) (
-      call_plays lane method message reply old mid k steps session below h k_is (steps_are ∙ ap (λ n. filter_map step_of (drop n mid.events)) before_is),
-      call_session lane (call_of method message) reply old mid (entry_of lane k steps reply) session below h refl,
+-- a call that was handled, with its entry, is one more turn of a run that goes on
+pub call_turn : (lane : ℕ) (call : LaneCall) (reply : Reply) (old mid new : State) (before : ℕ) → IsSession old → lane < 32 → IsHandled lane (called call) reply old mid → before ≡ length old.events
+    → IsEntered lane before reply mid new → PlaysCall (played_of old) lane call (played_of new) × IsSession new
+call_turn lane call reply old mid new before session below h before_is entered =
+    let k = slice_index mid.core.calls lane in
+    let steps = filter_map step_of (drop before mid.events) in
+    let P : State → Type 0 = λ s. PlaysCall (played_of old) lane call (played_of s) × IsSession s in
+    subst P (sym entered) (
+      call_plays lane call reply old mid k steps session below h refl (ap (λ n. filter_map step_of (drop n mid.events)) before_is),
+      call_session lane (called call) reply old mid (entry_of lane k steps reply) session below h refl,
     )
+
+-- the same where there may be no memory for the entry
+pub turn_plays : {X E : Type 0} (r : Result X E) (lane : ℕ) (call : LaneCall) (reply : Reply) (old mid new : State) (before : ℕ) → IsSession old → lane < 32 → IsHandled lane (called call) reply old mid
+    → before ≡ length old.events → OnOk r (IsEntered lane before reply mid new) → OnOk r (PlaysCall (played_of old) lane call (played_of new))
+turn_plays (Ok x) lane call reply old mid new before session below h before_is entered = (call_turn lane call reply old mid new before session below h before_is entered).0
+turn_plays (Err e) lane call reply old mid new before session below h before_is entered = tt
+
+pub turn_session : {X E : Type 0} (r : Result X E) (lane : ℕ) (call : LaneCall) (reply : Reply) (old mid new : State) (before : ℕ) → IsSession old → lane < 32 → IsHandled lane (called call) reply old mid
+    → before ≡ length old.events → OnOk r (IsEntered lane before reply mid new) → OnOk r (IsSession new)
+turn_session (Ok x) lane call reply old mid new before session below h before_is entered = (call_turn lane call reply old mid new before session below h before_is entered).1
+turn_session (Err e) lane call reply old mid new before session below h before_is entered = tt
 
 abbrev pub with_records : State → List Record → State
 with_records s records = record s { records = records }

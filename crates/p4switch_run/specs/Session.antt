@@ -1,16 +1,19 @@
 -- The run so far as the program keeps it.
-use Rattle.std.specs.Prelude.{◌≡◌, ℕ, ◌+◌, ◌-◌, ◌*◌, ◌^◌, ◌<◌, ◌≤◌, ◌==◌, ◌⊎◌, List, length, slice_index, set}
+use Rattle.std.specs.Prelude.{◌≡◌, ℕ, ◌+◌, ◌-◌, ◌*◌, ◌^◌, ◌<◌, ◌≤◌, ◌==◌, ◌⊎◌, List, [], ◌∷◌, ◌++◌, drop, length, slice_index, set}
+use Rattle.std.specs.List.{filter_map}
 use Rattle.p4_types.specs.declared.calls.Call as calls
 use Rattle.p4_types.specs.declared.calls.Reply.{Reply}
 use Rattle.p4_types.specs.declared.events.Event.{Event}
 use Rattle.p4_types.specs.declared.events.Start.{Start}
 use Rattle.p4_types.specs.declared.journal.Entry.{Entry}
+use Rattle.p4_types.specs.declared.journal.Step.{Step}
 use Rattle.p4_types.specs.declared.records.Record.{Record}
 use Rattle.p4_types.specs.declared.tape.TapeRecord.{TapeRecord}
-use Rattle.p4_types.specs.declared.tape.TapeRecord.TheVariants.{Call, Packet}
+use Rattle.p4_types.specs.declared.tape.TapeRecord.TheVariants.{Call, Packet, Leave}
 use Rattle.ctl_core.specs.Core.{Core, Handled}
-use Rattle.switch_spec.specs.Answer.{answer_to}
+use Rattle.switch_spec.specs.Answer.{LaneCall, Asks, Leaves, answer_to}
 use Rattle.switch_spec.specs.Control.{opened, applied}
+use Rattle.switch_spec.specs.History.{step_of}
 use Rattle.switch_spec.specs.Play.{Played, Turn, Answers, Refuses, Carries, items_of, play, played}
 use Rattle.p4switch_run.specs.Tallies.{Tallies}
 
@@ -40,9 +43,25 @@ pub record IsHandled (lane : ℕ) (call : calls.Call) (reply : Reply) (old new :
   pub journal : new.journal ≡ old.journal
   pub records : new.records ≡ old.records
 
--- what a record of the tape makes of the run: a call is answered, or there is no memory for it
+-- a lane's call is answered, or there is no memory for it
+abbrev pub PlaysCall : Played → ℕ → LaneCall → Played → Type 0
+PlaysCall p lane call q = (q ≡ play p (Answers lane call)) ⊎ (q ≡ play p (Refuses lane call))
+
+-- the entry of a call
+abbrev pub entry_of : ℕ → ℕ → List Step → Reply → Entry
+entry_of lane k steps reply = record { lane = lane; call = k; steps = steps; reply = reply }
+
+abbrev pub with_journal : State → List Entry → State
+with_journal s journal = record s { journal = journal }
+
+-- the entry of a lane's latest call was added to the journal, with the steps of the events behind the first so many
+abbrev pub IsEntered : ℕ → ℕ → Reply → State → State → Type 0
+IsEntered lane before reply old new = new ≡ with_journal old (old.journal ++ entry_of lane (slice_index old.core.calls lane) (filter_map step_of (drop before old.events)) reply ∷ [])
+
+-- what a record of the tape makes of the run
 abbrev pub Plays : Played → TapeRecord → Played → Type 0
-Plays p (Call lane method message) q = (q ≡ play p (Answers lane method message)) ⊎ (q ≡ play p (Refuses lane method message))
+Plays p (Call lane method message) q = PlaysCall p lane (Asks method message) q
+Plays p (Leave lane) q = PlaysCall p lane Leaves q
 Plays p (Packet lane port packet) q = q ≡ play p (Carries lane port packet)
 
 -- The run of some turns of these records.

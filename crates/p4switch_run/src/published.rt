@@ -37,6 +37,14 @@ fn step_of(event: &Event) -> Option<Step>
     ensures { result ≡ step_of event.now }
 {
     match event {
+        Event::Arbitrate { .. } => Some(Step {
+            kind: StepKind::Arbitrate,
+            changes: 0,
+        }),
+        Event::Leave { .. } => Some(Step {
+            kind: StepKind::Leave,
+            changes: 0,
+        }),
         Event::Change { .. } => Some(Step {
             kind: StepKind::Change,
             changes: 1,

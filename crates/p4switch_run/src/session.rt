@@ -5,7 +5,8 @@ ghost use Rattle.switch_spec.specs.Control.{opened};
 ghost use Rattle.switch_spec.specs.Meaning.{meaning, record_of};
 ghost use Rattle.switch_spec.specs.Play.{begun, next_packet, played_report};
 ghost use Rattle.switch_spec.specs.Tape.{IsRecord};
-ghost use Rattle.p4switch_run.specs.Session.{played_of, IsSession, IsHandled, Plays, IsPlayed, HasRoom};
+ghost use Rattle.p4switch_run.specs.Session.{played_of, IsSession, IsHandled, IsEntered, PlaysCall, Plays, IsPlayed, HasRoom};
+ghost use Rattle.switch_spec.specs.Answer.{Asks, Leaves};
 
 use crate::journal::Packets;
 use crate::published::Published;
@@ -84,6 +85,30 @@ impl Session {
         self.handle(alloc, lane, &call)
     }
 
+    // Adds the entry of a lane's latest call to the journal, with the steps of the events behind the first
+    // so many.
+    fn enter(
+        &mut self,
+        alloc: Global,
+        lane: u16,
+        before: usize,
+        reply: Reply,
+    ) -> Result<(), NoMemory>
+        requires lane { lane < 32 }
+        requires before { before ≤ length self.old.events }
+        ensures { OnOk result (IsEntered lane before reply self.old self.new) }
+    {
+        let steps = self.published.steps_after(alloc, before)?;
+        let call = self.control.calls_of(lane);
+        self.journal.push(Entry {
+            lane,
+            call,
+            steps,
+            reply,
+        })?;
+        Ok(())
+    }
+
     /// Answers a controller's next call. Without memory for the journal the run cannot go on.
     pub fn call(
         &mut self,
@@ -95,20 +120,25 @@ impl Session {
         requires lane { lane < 32 }
         requires room { HasRoom self.old }
         requires session { IsSession self.old }
-        ensures plays { OnOk result (Plays (played_of self.old) (TapeRecord.Call lane method message.now) (played_of self.new)) }
+        ensures plays { OnOk result (PlaysCall (played_of self.old) lane (Asks method message.now) (played_of self.new)) }
         ensures session { OnOk result (IsSession self.new) }
     {
         let before = self.published.len();
         let reply = self.reply(alloc, lane, method, message);
-        let steps = self.published.steps_after(alloc, before)?;
-        let call = self.control.calls_of(lane);
-        self.journal.push(Entry {
-            lane,
-            call,
-            steps,
-            reply,
-        })?;
-        Ok(())
+        self.enter(alloc, lane, before, reply)
+    }
+
+    /// Ends a controller's stream, which is a call too.
+    pub fn leave(&mut self, alloc: Global, lane: u16) -> Result<(), NoMemory>
+        requires lane { lane < 32 }
+        requires room { HasRoom self.old }
+        requires session { IsSession self.old }
+        ensures plays { OnOk result (PlaysCall (played_of self.old) lane Leaves (played_of self.new)) }
+        ensures session { OnOk result (IsSession self.new) }
+    {
+        let before = self.published.len();
+        let reply = self.handle(alloc, lane, &Call::Leave);
+        self.enter(alloc, lane, before, reply)
     }
 
     // The record of a worker's next packet.
@@ -172,6 +202,7 @@ impl Session {
             TapeRecord::Packet { lane, port, packet } => {
                 self.packet(alloc, *lane, *port, packet.as_slice())
             }
+            TapeRecord::Leave { lane } => self.leave(alloc, *lane),
         }
     }
 

@@ -18,19 +18,19 @@ use Rattle.p4v1_wire.specs.StatusRows.{error_rows, status_rows}
 use Rattle.p4v1_wire.specs.StreamRows.{p4data_rows, stream_rows}
 use Rattle.p4v1_wire.specs.Rows.{fields_by}
 
--- the Error of an update that has no room, and the Status of its Write
-abbrev pub no_room : Error
-no_room = record { canonical_code = pos 6; message = []; space = codes "p4switch"; code = pos 10; details = [] }
+-- the Error of an INSERT of an entry that is there already, and the Status of its Write
+abbrev pub already_there : Error
+already_there = record { canonical_code = pos 6; message = []; space = codes "p4switch"; code = pos 10; details = [] }
 
-abbrev pub no_room_bytes : List ℕ
-no_room_bytes = 0x08 ∷ 0x06 ∷ 0x1a ∷ 0x08 ∷ 0x70 ∷ 0x34 ∷ 0x73 ∷ 0x77 ∷ 0x69 ∷ 0x74 ∷ 0x63 ∷ 0x68 ∷ 0x20 ∷ 0x0a ∷ []
+abbrev pub already_there_bytes : List ℕ
+already_there_bytes = 0x08 ∷ 0x06 ∷ 0x1a ∷ 0x08 ∷ 0x70 ∷ 0x34 ∷ 0x73 ∷ 0x77 ∷ 0x69 ∷ 0x74 ∷ 0x63 ∷ 0x68 ∷ 0x20 ∷ 0x0a ∷ []
 
 abbrev pub refused_write : Status
-refused_write = record { code = pos 2; message = []; details = record { type_url = codes "type.googleapis.com/p4.v1.Error"; value = no_room_bytes } ∷ [] }
+refused_write = record { code = pos 2; message = []; details = record { type_url = codes "type.googleapis.com/p4.v1.Error"; value = already_there_bytes } ∷ [] }
 
 abbrev pub refused_write_bytes : List ℕ
 refused_write_bytes =
-    0x08 ∷ 0x02 ∷ 0x1a ∷ 0x31 ∷ 0x0a ∷ 0x1f ∷ 0x74 ∷ 0x79 ∷ 0x70 ∷ 0x65 ∷ 0x2e ∷ 0x67 ∷ 0x6f ∷ 0x6f ∷ 0x67 ∷ 0x6c ∷ 0x65 ∷ 0x61 ∷ 0x70 ∷ 0x69 ∷ 0x73 ∷ 0x2e ∷ 0x63 ∷ 0x6f ∷ 0x6d ∷ 0x2f ∷ 0x70 ∷ 0x34 ∷ 0x2e ∷ 0x76 ∷ 0x31 ∷ 0x2e ∷ 0x45 ∷ 0x72 ∷ 0x72 ∷ 0x6f ∷ 0x72 ∷ 0x12 ∷ 0x0e ∷ no_room_bytes
+    0x08 ∷ 0x02 ∷ 0x1a ∷ 0x31 ∷ 0x0a ∷ 0x1f ∷ 0x74 ∷ 0x79 ∷ 0x70 ∷ 0x65 ∷ 0x2e ∷ 0x67 ∷ 0x6f ∷ 0x6f ∷ 0x67 ∷ 0x6c ∷ 0x65 ∷ 0x61 ∷ 0x70 ∷ 0x69 ∷ 0x73 ∷ 0x2e ∷ 0x63 ∷ 0x6f ∷ 0x6d ∷ 0x2f ∷ 0x70 ∷ 0x34 ∷ 0x2e ∷ 0x76 ∷ 0x31 ∷ 0x2e ∷ 0x45 ∷ 0x72 ∷ 0x72 ∷ 0x6f ∷ 0x72 ∷ 0x12 ∷ 0x0e ∷ already_there_bytes
 
 -- a notice to the controller that became primary, and to one that is not
 abbrev pub notice : ℕ → StreamMessageResponse
@@ -56,7 +56,7 @@ ternary_match = record { field_id = 1; kind = Some (kinds.Ternary (0x63 ∷ []) 
 
 -- The canonical bytes of the worked messages, computed from the definitions.
 pub record WorkedMessages : Type 0 where
-  pub error : spelling (fields_by error_rows no_room) ≡ no_room_bytes
+  pub error : spelling (fields_by error_rows already_there) ≡ already_there_bytes
   pub status : spelling (fields_by status_rows refused_write) ≡ refused_write_bytes
   pub primary : spelling (fields_by stream_rows (notice 0)) ≡ 0x0a ∷ 0x08 ∷ 0x08 ∷ 0x01 ∷ 0x1a ∷ 0x02 ∷ 0x10 ∷ 0x05 ∷ 0x22 ∷ 0x00 ∷ []
   pub other : spelling (fields_by stream_rows (notice 6)) ≡ 0x0a ∷ 0x0a ∷ 0x08 ∷ 0x01 ∷ 0x1a ∷ 0x02 ∷ 0x10 ∷ 0x05 ∷ 0x22 ∷ 0x02 ∷ 0x08 ∷ 0x06 ∷ []

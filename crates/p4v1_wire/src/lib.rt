@@ -1,4 +1,4 @@
-//! The messages that a server sends: written, and read back.
+//! P4Runtime's messages: those that a client sends are read, those that a server sends are written.
 #![tactic(auto)]
 
 mod entities;
@@ -9,4 +9,5 @@ mod status;
 mod stream;
 mod writing;
 
+pub use p4v1_read::{read_call, read_config, read_p4info};
 pub use writing::{Writable, write_message};

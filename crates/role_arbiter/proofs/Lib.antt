@@ -5,3 +5,4 @@ pub mod Greatest
 pub mod Soundness
 pub mod Primaries
 pub mod WorkedRuns
+pub mod Settling

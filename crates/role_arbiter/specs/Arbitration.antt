@@ -73,6 +73,16 @@ received (known ∷ rest) role id = if known.role == role then record known { gr
 abbrev pub arbitrated : RolesState → Session → RolesState
 arbitrated state new = record { sessions = with_session state.sessions new; named = received state.named new.role new.election_id }
 
+-- no session like this can be made in this state: the caller has another role, the id is taken, or there would be too many
+abbrev pub is_refused : RolesState → Session → Bool
+is_refused state new =
+    has_other_role state.sessions new.caller new.role || id_is_taken state.sessions new.caller new.role new.election_id
+    || lacks_session state.sessions new.caller || lacks_role state.named new.role
+
+-- the state after an arbitration; one that cannot take effect leaves it
+abbrev pub settled : RolesState → Session → RolesState
+settled state new = if is_refused state new then state else arbitrated state new
+
 -- the state after a caller's session ended, if it had one; what its role received stays
 abbrev pub left : RolesState → ℕ → RolesState
 left state caller = record state { sessions = filter (λ session. not (session.caller == caller)) state.sessions }

@@ -1,7 +1,7 @@
 //! The roles of a device and their sessions.
 ghost use Rattle.std.specs.Prelude.{◌≡◌, false, None, Some, IfOk, IfErr, OnOk, OnErr, is_some};
 ghost use Rattle.std.specs.Option.{option_map, option_copied};
-ghost use Rattle.role_arbiter.specs.State.{RolesState, no_roles, session_in, greatest_in, primary_of, status_of};
+ghost use Rattle.role_arbiter.specs.State.{RolesState, no_roles, session_in, greatest_in, primary_of, status_by, status_of};
 ghost use Rattle.role_arbiter.specs.Arbitration.{cause, asked, arbitrated, left, lacks_session, lacks_role};
 ghost use Rattle.role_arbiter.specs.Telling.{told_at_arbitration, told_at_leave};
 
@@ -41,6 +41,16 @@ impl Roles {
         let sessions = Vec::with_capacity(alloc, SESSION_LIMIT)?;
         let named = Vec::with_capacity(alloc, ROLE_LIMIT)?;
         Ok(Roles { sessions, named })
+    }
+
+    /// A copy, with room for as many.
+    pub fn duplicate(&self, alloc: Global) -> Result<Roles, NoMemory>
+        ensures { IfOk result (λ copy. copy ≡ self.now) }
+    {
+        Ok(Roles {
+            sessions: sessions::copied_sessions(alloc, &self.sessions)?,
+            named: sessions::copied_named(alloc, &self.named)?,
+        })
     }
 
     /// The live sessions, by rising caller.
@@ -88,17 +98,21 @@ impl Roles {
         }
     }
 
-    /// What a caller's session is told, if it has one: `Ok` for the primary of its role,
-    /// `AlreadyExists` for another session while there is a primary, `NotFound` while there is none.
+    /// What a session of a role is told: `Ok` for the primary of the role, `AlreadyExists` for another
+    /// session while there is a primary, `NotFound` while there is none.
+    pub fn standing(&self, role: u64, caller: u16) -> Code
+        ensures { result ≡ status_by (primary_of self.now role) caller }
+    {
+        sessions::status_by(self.primary_session(role), caller)
+    }
+
+    /// What a caller's session is told, if it has one.
     pub fn status(&self, caller: u16) -> Option<Code>
         ensures { result ≡ status_of self.now caller }
     {
         match self.session(caller) {
             None => None,
-            Some(session) => {
-                let primary = self.primary_session(session.role);
-                Some(sessions::status_by(primary, session.caller))
-            }
+            Some(session) => Some(self.standing(session.role, session.caller)),
         }
     }
 

@@ -1,7 +1,9 @@
 //! Measures what only shows inside of the process. The word `counters` measures the counters that threads share,
-//! `packets` the reading of fields and the value of expressions, `tables` look-ups in a table of routes.
+//! `packets` the reading of fields and the value of expressions, `blocks` the decoding of header blocks, `tables`
+//! look-ups in a table of routes.
 #![tactic(auto)]
 
+mod blocks;
 mod counters;
 mod packets;
 mod tables;
@@ -21,6 +23,15 @@ fn tell_packets(rt: HostRuntime) -> io::Result<()> {
     )
 }
 
+fn tell_blocks(rt: HostRuntime) -> io::Result<()> {
+    let first = blocks::first_requests(&rt)?;
+    let next = blocks::next_requests(&rt)?;
+    println!(rt;
+        "a first request: {} nanoseconds, the next ones: {} ({} headers)",
+        first.nanoseconds, next.nanoseconds, first.headers
+    )
+}
+
 fn tell_tables(rt: HostRuntime) -> io::Result<()> {
     for routes in [1_000, 8_000] {
         let took = tables::look_ups(&rt, routes)?;
@@ -37,6 +48,9 @@ fn main(rt: HostRuntime) -> io::Result<()> {
         Some(word) => word,
         None => String::new(rt.alloc()),
     };
+    if word.as_str() == "blocks" {
+        return tell_blocks(rt);
+    }
     if word.as_str() == "packets" {
         return tell_packets(rt);
     }
@@ -44,7 +58,7 @@ fn main(rt: HostRuntime) -> io::Result<()> {
         return tell_tables(rt);
     }
     if word.as_str() != "counters" {
-        return println!(rt; "speed counters\nspeed packets\nspeed tables");
+        return println!(rt; "speed blocks\nspeed counters\nspeed packets\nspeed tables");
     }
     for apart in [0, 262_144] {
         for threads in [1, 2, 4] {

@@ -1,6 +1,5 @@
 -- What holds of each answer.
-use Rattle.std.proofs.Common.{arith, suc, ◌+◌, ◌≤◌, ◌<◌, ◌≡◌, ℕ, Bool, true, false, not, List, [], ◌∷◌, ◌++◌, length, map, fold, Option, Some, None, Result, Ok, Err, is_some, ◌==◌, nat_lt, IfErr, refl, ap, ◌∙◌, sym, subst, cond, if◌then◌else◌}
-use Rattle.std.proofs.lemmas.List.{append-nil}
+use Rattle.std.proofs.Common.{arith, suc, ◌+◌, ◌≤◌, ◌≡◌, ℕ, Bool, true, false, not, List, [], ◌∷◌, ◌++◌, length, map, fold, Option, Some, None, Result, Ok, Err, is_some, ◌==◌, nat_lt, IfErr, refl, ap, ◌∙◌, sym, cond, if◌then◌else◌, option_map}
 use Rattle.std.specs.List.{filter_map}
 use Rattle.std.specs.Result.{result_ok}
 use Rattle.p4_types.specs.declared.calls.Call.{Call}
@@ -17,17 +16,22 @@ use Rattle.p4_types.specs.declared.events.Event.{Event}
 use Rattle.p4_types.specs.declared.events.Event.TheVariants as events
 use Rattle.p4_types.specs.declared.events.Origin.{Origin}
 use Rattle.p4_types.specs.declared.info.Table.{Table}
+use Rattle.p4_types.specs.declared.messages.MasterArbitrationUpdate.{MasterArbitrationUpdate}
+use Rattle.p4_types.specs.declared.messages.StreamMessageRequest.{StreamMessageRequest}
+use Rattle.p4_types.specs.declared.messages.StreamMessageRequest.TheVariants as requests
 use Rattle.p4_types.specs.declared.messages.Uint128.{Uint128}
 use Rattle.p4_types.specs.declared.messages.Update.{Update}
 use Rattle.p4_types.specs.declared.messages.WriteRequest.{WriteRequest}
 use Rattle.p4_types.specs.declared.table.Change.{Change}
 use Rattle.p4_types.specs.declared.table.Change.TheVariants as changes
 use Rattle.p4_types.specs.declared.table.EntryChange.{EntryChange}
-use Rattle.switch_spec.specs.Answer.{Answer, LaneCall, plain, failed, write_reply, write_refusal, write_unless, written, continued, all_or_nothing, batch, origin, has_failed, outcomes, state_after, own_error, batch_errors, is_atomicity, is_atomic, read_reply, unreadable, answer_to, answer}
-use Rattle.switch_spec.specs.Control.{Control, Plane, primary, bridge_primary, bears, inserted_in, changed, changed_unless, changed_in, change_applied, change_cause, outcome, apply, applied, May, MayChange, MayChanges, Legal}
+use Rattle.role_arbiter.specs.declared.sessions.Session.{Session}
+use Rattle.role_arbiter.specs.Arbitration.{cause, asked}
+use Rattle.role_arbiter.specs.State.{session_in}
+use Rattle.switch_spec.specs.Answer.{Answer, LaneCall, plain, write_reply, write_refusal, write_unless, continued, all_or_nothing, batch, origin, has_failed, outcomes, state_after, is_atomicity, is_atomic, read_reply, arbitration_unless, unserved_answer, stream_answer, leave_of, answer_to, answer, called}
+use Rattle.switch_spec.specs.Control.{Control, Plane, primary, bears, with_roles, inserted_in, changed, changed_unless, changed_in, change_applied, outcome, applied, MayChanges, Legal}
 use Rattle.switch_spec.specs.Objects.{table_of}
-use Rattle.p4v1_read.specs.Calls.{call_of}
-use Rattle.switch_spec.specs.Reading.{match_refusal, entry_refusal_in, entity_refusal, first_of, read_unless, read_in, read_result}
+use Rattle.switch_spec.specs.Reading.{entry_refusal_in, entity_refusal, first_of, read_unless, read_in, read_result}
 use Rattle.switch_spec.specs.History.{is_unavailable, steps_of}
 
 -- It is no refusal for memory, makes no packet, and its events are steps that may follow, no more than a list of updates has.
@@ -40,24 +44,24 @@ pub record IsSound (c : Control) (a : Answer) : Type 0 where
   pub few_steps : length (steps_of a.events) ≤ 4096
   pub few_numbers : (applied c a.events).next ≤ c.next + 4096
 
--- A change leaves open what is open and each role its primary, and draws one number at most.
-record IsSteady (c d : Control) : Type 0 where
-  closed : d.closed ≡ c.closed
-  primaries : (role : ℕ) (id : Uint128) → bears (primary d role) id ≡ bears (primary c role) id
-  next : d.next ≤ c.next + 1
+-- A change leaves open what is open and the roles as they are, and draws one number at most.
+pub record IsSteady (c d : Control) : Type 0 where
+  pub closed : d.closed ≡ c.closed
+  pub roles : d.roles ≡ c.roles
+  pub next : d.next ≤ c.next + 1
 
 steady_refl : (c : Control) → IsSteady c c
-steady_refl c = record { closed = refl; primaries = λ role id. refl; next = omega arith }
+steady_refl c = record { closed = refl; roles = refl; next = omega arith }
 
 inserted_steady : (o : Option Table) (c : Control) (plane : Plane) (change : EntryChange) → c.plane ≡ Some plane → IsSteady c (inserted_in o c plane change)
 inserted_steady None c plane change is = steady_refl c
-inserted_steady (Some table) c plane change is = record { closed = refl; primaries = λ role id. ap (λ p. bears (bridge_primary p role) id) (sym is); next = omega arith }
+inserted_steady (Some table) c plane change is = record { closed = refl; roles = refl; next = omega arith }
 
 changed_steady : (change : Change) (c : Control) (plane : Plane) → c.plane ≡ Some plane → IsSteady c (changed c plane change)
 changed_steady (changes.InsertEntry change) c plane is = inserted_steady _ c plane change is
-changed_steady (changes.ModifyEntry change) c plane is = record { closed = refl; primaries = λ role id. ap (λ p. bears (bridge_primary p role) id) (sym is); next = omega arith }
-changed_steady (changes.DeleteEntry name) c plane is = record { closed = refl; primaries = λ role id. ap (λ p. bears (bridge_primary p role) id) (sym is); next = omega arith }
-changed_steady (changes.ModifyDefault table action) c plane is = record { closed = refl; primaries = λ role id. ap (λ p. bears (bridge_primary p role) id) (sym is); next = omega arith }
+changed_steady (changes.ModifyEntry change) c plane is = record { closed = refl; roles = refl; next = omega arith }
+changed_steady (changes.DeleteEntry name) c plane is = record { closed = refl; roles = refl; next = omega arith }
+changed_steady (changes.ModifyDefault table action) c plane is = record { closed = refl; roles = refl; next = omega arith }
 
 unless_steady : (o : Option Cause) (change : Change) (c : Control) (plane : Plane) → c.plane ≡ Some plane → IsSteady c (changed_unless o c plane change)
 unless_steady None change c plane is = changed_steady change c plane is
@@ -67,9 +71,13 @@ in_steady : (o : Option Plane) (change : Change) (c : Control) → c.plane ≡ o
 in_steady None change c is = steady_refl c
 in_steady (Some plane) change c is = unless_steady _ change c plane is
 
-change_steady : (change : Change) (c : Control) → IsSteady c (change_applied c change)
+pub change_steady : (change : Change) (c : Control) → IsSteady c (change_applied c change)
 unfolding change_applied
 change_steady change c = in_steady c.plane change c refl
+
+-- as the roles stay, so do the primaries
+still_bears : (c d : Control) (role : ℕ) (id : Uint128) → d.roles ≡ c.roles → bears (primary d role) id ≡ bears (primary c role) id
+still_bears c d role id is = ap (λ roles. bears (primary (with_roles c roles) role) id) is
 
 fold_closed : (list : List Change) (c : Control) → (fold change_applied c list).closed ≡ c.closed
 fold_closed [] c = refl
@@ -113,7 +121,7 @@ may_more : (r : Result Change Cause) (c : Control) (by : Origin) (update : Updat
     → ((d : Control) → bears (primary d by.role) by.election_id ≡ true → MayChanges d by (made_by d by.role updates))
     → MayChanges c by (filter_map result_ok (r ∷ outcomes (state_after c r) by.role updates))
 may_more (Ok change) c by update updates h is rest =
-    (record { by_primary = h; update = update; no_cause = is }, rest (change_applied c change) ((change_steady change c).primaries by.role by.election_id ∙ h))
+    (record { by_primary = h; update = update; no_cause = is }, rest (change_applied c change) (still_bears c (change_applied c change) by.role by.election_id (change_steady change c).roles ∙ h))
 may_more (Err cause) c by update updates h is rest = rest c h
 
 -- they may be made, each in its turn
@@ -306,16 +314,72 @@ read_sound : (c : Control) (r : Result (List (List ℕ)) Code) → IfErr r (λ c
 read_sound c (Ok messages) h = plain_sound c codes.Ok messages refl
 read_sound c (Err code) h = plain_sound c code _ h
 
+-- the refusals of an arbitration, by the rules that it breaks
+arbitration_available : (a b c d : Bool) → let refused : Option Cause = cond a (Some (record { rule = 2; code = codes.FailedPrecondition })) (cond b (Some (record { rule = 3; code = codes.InvalidArgument }))
+    (cond c (Some (record { rule = 4; code = codes.InvalidArgument })) (cond d (Some (record { rule = 5; code = codes.ResourceExhausted })) None))) in Available (option_map (λ x. x.code) refused)
+arbitration_available true b c d = refl
+arbitration_available false true c d = refl
+arbitration_available false false true d = refl
+arbitration_available false false false true = refl
+arbitration_available false false false false = tt
+
+arbitration_unless_sound : (o : Option Cause) (c : Control) (lane k : ℕ) (update : MasterArbitrationUpdate) → cause c.roles lane update ≡ o → Available (option_map (λ x. x.code) o)
+    → IsSound c (arbitration_unless o c lane k update)
+arbitration_unless_sound (Some refused) c lane k update is available = plain_sound c refused.code [] available
+arbitration_unless_sound None c lane k update is available = record {
+  available = refl;
+  no_packet = refl;
+  all_steps = refl;
+  legal = λ alive rest later. ((alive, record { update = update; asks = refl; no_cause = is }), later);
+  still_open = λ alive. alive;
+  few_steps = omega arith;
+  few_numbers = omega arith;
+}
+
+arbitration_sound : (b : Bool) (c : Control) (lane k : ℕ) (update : MasterArbitrationUpdate) → IsSound c (if b then arbitration_unless (cause c.roles lane update) c lane k update else plain codes.NotFound [])
+arbitration_sound true c lane k update = arbitration_unless_sound _ c lane k update refl (arbitration_available _ _ _ _)
+arbitration_sound false c lane k update = plain_sound c codes.NotFound [] refl
+
+unserved_sound : (c : Control) (lane : ℕ) → IsSound c (unserved_answer lane)
+unserved_sound c lane = record {
+  available = refl;
+  no_packet = refl;
+  all_steps = refl;
+  legal = λ alive rest later. later;
+  still_open = λ alive. alive;
+  few_steps = omega arith;
+  few_numbers = omega arith;
+}
+
+stream_sound : (message : Option StreamMessageRequest) (c : Control) (lane k : ℕ) → IsSound c (stream_answer c lane k message)
+stream_sound None c lane k = plain_sound c codes.InvalidArgument [] refl
+stream_sound (Some (requests.Arbitration update)) c lane k = arbitration_sound (update.device_id == c.device) c lane k update
+stream_sound (Some (requests.Packet packet)) c lane k = unserved_sound c lane
+stream_sound (Some (requests.DigestAck acknowledged)) c lane k = plain_sound c codes.Ok [] refl
+stream_sound (Some (requests.Other other)) c lane k = unserved_sound c lane
+
+leave_sound : (o : Option Session) (c : Control) (lane k : ℕ) → session_in c.roles.sessions lane ≡ o → IsSound c (leave_of o c lane k)
+leave_sound None c lane k is = plain_sound c codes.Ok [] refl
+leave_sound (Some session) c lane k is = record {
+  available = refl;
+  no_packet = refl;
+  all_steps = refl;
+  legal = λ alive rest later. ((alive, ap is_some is), later);
+  still_open = λ alive. alive;
+  few_steps = omega arith;
+  few_numbers = omega arith;
+}
+
 pub answer_to_sound : (call : Call) (c : Control) (lane k : ℕ) → IsSound c (answer_to c lane k call)
 answer_to_sound (calls.Write request) c lane k = write_sound _ c lane k request refl (write_available (request.device_id == c.device) (bears (primary c request.role_id) request.election_id) (is_some c.plane) (is_atomicity request.atomicity) (nat_lt 4096 (length request.updates)))
 answer_to_sound (calls.Read request) c lane k = read_sound c _ (read_available c request)
 answer_to_sound (calls.Set request) c lane k = plain_sound c codes.Unimplemented _ refl
 answer_to_sound (calls.Get request) c lane k = plain_sound c codes.Unimplemented _ refl
-answer_to_sound (calls.Stream message) c lane k = plain_sound c codes.Unimplemented [] refl
+answer_to_sound (calls.Stream message) c lane k = stream_sound message c lane k
 answer_to_sound calls.Capabilities c lane k = plain_sound c codes.Ok _ refl
 answer_to_sound (calls.Unreadable method) c lane k = plain_sound c codes.InvalidArgument _ refl
-answer_to_sound calls.Leave c lane k = plain_sound c codes.Unimplemented [] refl
+answer_to_sound calls.Leave c lane k = leave_sound _ c lane k refl
 
 pub answer_sound : (c : Control) (lane k : ℕ) (call : LaneCall) → IsSound c (answer c lane k call)
 unfolding answer
-answer_sound c lane k call = answer_to_sound (call_of call.method call.message) c lane k
+answer_sound c lane k call = answer_to_sound (called call) c lane k

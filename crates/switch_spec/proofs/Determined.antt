@@ -9,13 +9,13 @@ use Rattle.p4_types.specs.declared.events.Start.{Start}
 use Rattle.p4_types.specs.declared.journal.Entry.{Entry}
 use Rattle.p4_types.specs.declared.records.Record.{Record}
 use Rattle.p4_types.specs.declared.tape.TapeRecord.{TapeRecord}
-use Rattle.p4_types.specs.declared.tape.TapeRecord.TheVariants.{Call, Packet}
+use Rattle.p4_types.specs.declared.tape.TapeRecord.TheVariants.{Call, Packet, Leave}
 use Rattle.p4_types.specs.declared.tape.Who.TheVariants.{Worker}
-use Rattle.switch_spec.specs.Answer.{LaneCall}
+use Rattle.switch_spec.specs.Answer.{LaneCall, Asks, Leaves}
 use Rattle.switch_spec.specs.Control.{applied, after}
 use Rattle.switch_spec.specs.History.{Made, History, Numbered, own_events, journal_events, published, is_refused_for_memory, expected, answered}
 use Rattle.switch_spec.specs.Meaning.{meaning, record_of}
-use Rattle.switch_spec.specs.Play.{Played, begun, next_call, next_packet, play_call, play_packet, answering}
+use Rattle.switch_spec.specs.Play.{Played, begun, next_call, next_packet, play_call, play_packet, call_item, answering}
 use Rattle.switch_spec.specs.Report.{Arrival, Carried, Fits, InTurn, IsLockstepReport, Lockstep, TapeDeterminesReport, report_of}
 use Rattle.switch_spec.specs.ReportText.{is_who, report_text}
 use Rattle.switch_spec.proofs.Fitting.{IsAfter, after_call, state_after}
@@ -47,12 +47,15 @@ first_made p lane call m lane_is call_is entry_is answered_is number_is =
     ap (λ (c : LaneCall). let made_of : Made = record { call = c; entry = m.entry } in made_of) call_is
     ∙ ap (λ (e : Entry). let made_of : Made = record { call = call; entry = e } in made_of) entry
 
-rest_of_call : (start : Start) (whole list : List Event) (p : Played) (lane method : ℕ) (message : List ℕ) (tape : List TapeRecord) (m : Made) (journal : List Made) (records : List Carried)
-    → m ≡ made_call p lane (record { method = method; message = message })
-    → Rest start whole list p (Call lane method message ∷ tape) (m ∷ journal) records
-    → let call : LaneCall = record { method = method; message = message } in Rest start whole (list ++ call_events p lane call) (play_call p lane call) tape journal records
-rest_of_call start whole list p lane method message tape m journal records is h =
-    let call : LaneCall = record { method = method; message = message } in
+-- the entry that follows a lane's call on the tape
+follows_call : (call : LaneCall) (n lane : ℕ) (tape : List TapeRecord) (m : Made) (journal : List Made) (records : List Carried) → Lockstep n (call_item lane call ∷ tape) (m ∷ journal) records
+    → (m.entry.lane ≡ lane) × (m.call ≡ call) × Lockstep m.entry.reply.steps tape journal records
+follows_call (Asks method message) n lane tape m journal records h = h
+follows_call Leaves n lane tape m journal records h = h
+
+rest_of_call : (start : Start) (whole list : List Event) (p : Played) (lane : ℕ) (call : LaneCall) (tape : List TapeRecord) (m : Made) (journal : List Made) (records : List Carried)
+    → m ≡ made_call p lane call → Rest start whole list p (call_item lane call ∷ tape) (m ∷ journal) records → Rest start whole (list ++ call_events p lane call) (play_call p lane call) tape journal records
+rest_of_call start whole list p lane call tape m journal records is h =
     let next : Played = play_call p lane call in
     let own : own_events p.control m ≡ call_events p lane call = ap (own_events p.control) is ∙ own_events_of p.control p.steps lane (next_call lane p) call in
     let F : Made → Type 0 = λ x. Lockstep x.entry.reply.steps tape journal records in
@@ -60,7 +63,7 @@ rest_of_call start whole list p lane method message tape m journal records is h 
     let G : List Event → Type 0 = λ own. History (applied p.control own) (p.steps + length m.entry.steps) journal in
     let N : Made → Type 0 = λ x. Numbered (p.journal ++ x.entry ∷ []) (map (λ y. y.entry) journal) in
     record {
-      follows = subst F is h.follows.2;
+      follows = subst F is (follows_call call p.steps lane tape m journal records h.follows).2;
       history = subst H is (subst G own h.history.1);
       none_refused = h.none_refused.1;
       numbered = subst N is h.numbered.1;
@@ -71,6 +74,17 @@ rest_of_call start whole list p lane method message tape m journal records is h 
           ∙ ap (λ (rest : List Event). list ++ rest) (append_assoc (call_events p lane call) _ _)
           ∙ sym (append_assoc list (call_events p lane call) _);
     }
+
+-- the first entry of a run that goes on with a lane's call
+first_of_call : (start : Start) (whole list : List Event) (p : Played) (lane : ℕ) (call : LaneCall) (tape : List TapeRecord) (m : Made) (journal : List Made) (records : List Carried)
+    → Rest start whole list p (call_item lane call ∷ tape) (m ∷ journal) records → m ≡ made_call p lane call
+first_of_call start whole list p lane call tape m journal records rest =
+    let follows = follows_call call p.steps lane tape m journal records rest.follows in
+    first_made p lane call m follows.0 follows.1 rest.history.0 rest.none_refused.0 rest.numbered.0
+
+-- with the first entry in front
+made_first : (m n : Made) (journal others : List Made) (records same : List Carried) → m ≡ n → (journal ≡ others) × (records ≡ same) → (m ∷ journal ≡ n ∷ others) × (records ≡ same)
+made_first m n journal others records same is later = (ap (λ (x : Made). x ∷ journal) is ∙ ap (λ (j : List Made). n ∷ j) later.0, later.1)
 
 first_carried : (start : Start) (whole list rest : List Event) (p : Played) (lane port : ℕ) (packet : List ℕ) (x : Carried) → IsAfter start list p → whole ≡ list ++ rest
     → x.outcome.who ≡ Worker lane → x.arrival ≡ (port, packet) → x.outcome.steps ≡ p.steps
@@ -110,11 +124,18 @@ determined : (start : Start) (whole list : List Event) (p : Played) (tape : List
 determined start whole list p [] journal records h rest = (rest.follows.0, rest.follows.1)
 determined start whole list p (Call lane method message ∷ tape) [] records h rest = absurd rest.follows
 determined start whole list p (Call lane method message ∷ tape) (m ∷ journal) records h rest =
-    let call : LaneCall = record { method = method; message = message } in
-    let first : m ≡ made_call p lane call = first_made p lane call m rest.follows.0 rest.follows.1 rest.history.0 rest.none_refused.0 rest.numbered.0 in
-    let later = determined start whole (list ++ call_events p lane call) (play_call p lane call) tape journal records (after_call start list p lane call h)
-    (rest_of_call start whole list p lane method message tape m journal records first rest) in
-    (ap (λ (x : Made). x ∷ journal) first ∙ ap (λ (j : List Made). made_call p lane call ∷ j) later.0, later.1)
+    let call : LaneCall = Asks method message in
+    let first : m ≡ made_call p lane call = first_of_call start whole list p lane call tape m journal records rest in
+    made_first m (made_call p lane call) journal _ records _ first
+    (determined start whole (list ++ call_events p lane call) (play_call p lane call) tape journal records (after_call start list p lane call h)
+    (rest_of_call start whole list p lane call tape m journal records first rest))
+determined start whole list p (Leave lane ∷ tape) [] records h rest = absurd rest.follows
+determined start whole list p (Leave lane ∷ tape) (m ∷ journal) records h rest =
+    let call : LaneCall = Leaves in
+    let first : m ≡ made_call p lane call = first_of_call start whole list p lane call tape m journal records rest in
+    made_first m (made_call p lane call) journal _ records _ first
+    (determined start whole (list ++ call_events p lane call) (play_call p lane call) tape journal records (after_call start list p lane call h)
+    (rest_of_call start whole list p lane call tape m journal records first rest))
 determined start whole list p (Packet lane port packet ∷ tape) journal [] h rest = absurd rest.follows
 determined start whole list p (Packet lane port packet ∷ tape) journal (x ∷ records) h rest =
     let first : x ≡ carried_packet p lane port packet = first_carried start whole list _ p lane port packet x h rest.is

@@ -22,29 +22,27 @@ use Rattle.switch_spec.proofs.Playing.{call_events, made, carried, own_events_of
 -- the events that the rest of a tape adds
 abbrev pub events_from : Played → List Turn → List Event
 events_from p [] = []
-events_from p (Answers lane method message ∷ tape) =
-    let call : LaneCall = record { method = method; message = message } in call_events p lane call ++ events_from (play_call p lane call) tape
-events_from p (Refuses lane method message ∷ tape) = events_from (play_refusal p lane) tape
+events_from p (Answers lane call ∷ tape) =
+    call_events p lane call ++ events_from (play_call p lane call) tape
+events_from p (Refuses lane call ∷ tape) = events_from (play_refusal p lane) tape
 events_from p (Carries lane port packet ∷ tape) = events_from (play_packet p lane port packet) tape
 
 pub events_played : (p : Played) (tape : List Turn) → journal_events p.control (made p tape) ≡ events_from p tape
 events_played p [] = refl
-events_played p (Answers lane method message ∷ tape) =
-    let call : LaneCall = record { method = method; message = message } in
+events_played p (Answers lane call ∷ tape) =
     ap (λ (list : List Event). list ++ journal_events (applied p.control list) (made (play_call p lane call) tape)) (own_events_of p.control p.steps lane (next_call lane p) call)
     ∙ ap (λ (rest : List Event). call_events p lane call ++ rest) (events_played (play_call p lane call) tape)
-events_played p (Refuses lane method message ∷ tape) = events_played (play_refusal p lane) tape
+events_played p (Refuses lane call ∷ tape) = events_played (play_refusal p lane) tape
 events_played p (Carries lane port packet ∷ tape) = events_played (play_packet p lane port packet) tape
 
 pub legal_played : (p : Played) (tape : List Turn) → p.control.closed ≡ false → Legal p.control (events_from p tape ++ events.Close ∷ [])
 legal_played p [] h = (h, tt)
-legal_played p (Answers lane method message ∷ tape) h =
-    let call : LaneCall = record { method = method; message = message } in
+legal_played p (Answers lane call ∷ tape) h =
     let sound = answer_sound p.control lane (next_call lane p) call in
     let P : List Event → Type 0 = λ list. Legal p.control list in
     subst P (sym (append_assoc (call_events p lane call) (events_from (play_call p lane call) tape) (events.Close ∷ [])))
     (sound.legal h _ (legal_played (play_call p lane call) tape (sound.still_open h)))
-legal_played p (Refuses lane method message ∷ tape) h = legal_played (play_refusal p lane) tape h
+legal_played p (Refuses lane call ∷ tape) h = legal_played (play_refusal p lane) tape h
 legal_played p (Carries lane port packet ∷ tape) h = legal_played (play_packet p lane port packet) tape h
 
 -- The state is that after these events, each of which is a step.
@@ -76,11 +74,10 @@ in_list_after start list rest p h =
 pub fits_played : (start : Start) (whole : List Event) (p : Played) (tape : List Turn) (list : List Event) → IsAfter start list p
     → whole ≡ list ++ (events_from p tape ++ events.Close ∷ []) → AllByRecursion (Fits start whole) (carried p tape)
 fits_played start whole p [] list h is = tt
-fits_played start whole p (Answers lane method message ∷ tape) list h is =
-    let call : LaneCall = record { method = method; message = message } in
+fits_played start whole p (Answers lane call ∷ tape) list h is =
     fits_played start whole (play_call p lane call) tape (list ++ call_events p lane call) (after_call start list p lane call h)
     (is ∙ ap (λ rest. list ++ rest) (append_assoc (call_events p lane call) _ _) ∙ sym (append_assoc list (call_events p lane call) _))
-fits_played start whole p (Refuses lane method message ∷ tape) list h is =
+fits_played start whole p (Refuses lane call ∷ tape) list h is =
     fits_played start whole (play_refusal p lane) tape list (record { control = h.control; steps = h.steps; all_steps = h.all_steps }) is
 fits_played start whole p (Carries lane port packet ∷ tape) list h is =
     let rest : List Event = events_from (play_packet p lane port packet) tape ++ events.Close ∷ [] in (

@@ -3,10 +3,10 @@ use Rattle.std.proofs.Common.{◌≡◌, ℕ, Bool, true, false, List, [], ◌�
 use Rattle.std.specs.Prelude.{◌==◌, if◌then◌else◌}
 use Rattle.std.specs.List.{filter_map, cons_option}
 use Rattle.p4_types.specs.declared.tape.TapeRecord.{TapeRecord}
-use Rattle.p4_types.specs.declared.tape.TapeRecord.TheVariants.{Call, Packet}
+use Rattle.p4_types.specs.declared.tape.TapeRecord.TheVariants.{Call, Packet, Leave}
 use Rattle.p4_types.specs.declared.tape.Who.TheVariants.{Controller, Worker}
 use Rattle.p4_types.specs.declared.events.Start.{Start}
-use Rattle.switch_spec.specs.Answer.{LaneCall}
+use Rattle.switch_spec.specs.Answer.{LaneCall, Asks, Leaves}
 use Rattle.switch_spec.specs.Control.{Control, applied}
 use Rattle.switch_spec.specs.History.{Made, History, own_events, refused_for_memory, answered, is_refused_for_memory}
 use Rattle.switch_spec.specs.Report.{Arrival, Carried, call_on, packet_on, made_on, carried_on, from_cpu, packet_out, packets_out, Lockstep}
@@ -25,7 +25,11 @@ calls_follow lane n [] journal records h = ap (λ j. map (λ made. made.call) (m
 calls_follow lane n (Call other method message ∷ tape) [] records h = absurd h
 calls_follow lane n (Call other method message ∷ tape) (made ∷ journal) records h =
     first_call (lane == made.entry.lane) made (made_on lane journal) _ _ h.1 (calls_follow lane _ tape journal records h.2)
-    ∙ ap (λ l. cons_option (if lane == l then Some (record { method = method; message = message }) else None) (filter_map (call_on lane) tape)) h.0
+    ∙ ap (λ l. cons_option (if lane == l then Some (Asks method message) else None) (filter_map (call_on lane) tape)) h.0
+calls_follow lane n (Leave other ∷ tape) [] records h = absurd h
+calls_follow lane n (Leave other ∷ tape) (made ∷ journal) records h =
+    first_call (lane == made.entry.lane) made (made_on lane journal) _ _ h.1 (calls_follow lane _ tape journal records h.2)
+    ∙ ap (λ l. cons_option (if lane == l then Some Leaves else None) (filter_map (call_on lane) tape)) h.0
 calls_follow lane n (Packet other port packet ∷ tape) journal [] h = absurd h
 calls_follow lane n (Packet other port packet ∷ tape) journal (carried ∷ records) h = calls_follow lane n tape journal records h.3
 
@@ -39,6 +43,8 @@ pub packets_follow : (lane n : ℕ) (tape : List TapeRecord) (journal : List Mad
 packets_follow lane n [] journal records h = ap (λ r. map (λ carried. carried.arrival) (carried_on (Worker lane) r)) h.1
 packets_follow lane n (Call other method message ∷ tape) [] records h = absurd h
 packets_follow lane n (Call other method message ∷ tape) (made ∷ journal) records h = packets_follow lane _ tape journal records h.2
+packets_follow lane n (Leave other ∷ tape) [] records h = absurd h
+packets_follow lane n (Leave other ∷ tape) (made ∷ journal) records h = packets_follow lane _ tape journal records h.2
 packets_follow lane n (Packet other port packet ∷ tape) journal [] h = absurd h
 packets_follow lane n (Packet other port packet ∷ tape) journal (carried ∷ records) h =
     first_packet (is_who (Worker lane) carried.outcome.who) carried (carried_on (Worker lane) records) _ _ h.1 (packets_follow lane n tape journal records h.3)
@@ -54,6 +60,8 @@ pub none_of_controllers : (lane n : ℕ) (tape : List TapeRecord) (journal : Lis
 none_of_controllers lane n [] journal records h = ap (carried_on (Controller lane)) h.1
 none_of_controllers lane n (Call other method message ∷ tape) [] records h = absurd h
 none_of_controllers lane n (Call other method message ∷ tape) (made ∷ journal) records h = none_of_controllers lane _ tape journal records h.2
+none_of_controllers lane n (Leave other ∷ tape) [] records h = absurd h
+none_of_controllers lane n (Leave other ∷ tape) (made ∷ journal) records h = none_of_controllers lane _ tape journal records h.2
 none_of_controllers lane n (Packet other port packet ∷ tape) journal [] h = absurd h
 none_of_controllers lane n (Packet other port packet ∷ tape) journal (carried ∷ records) h =
     not_controller lane other carried (carried_on (Controller lane) records) h.0 ∙ none_of_controllers lane n tape journal records h.3

@@ -9,3 +9,4 @@ pub mod TapeItems
 pub mod TapeRecords
 pub mod Tapes
 pub mod WorkedRows
+pub mod SoundRoles

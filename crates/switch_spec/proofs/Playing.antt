@@ -6,11 +6,12 @@ use Rattle.std.specs.Prelude.{fold}
 use Rattle.std.specs.List.{AllByRecursion}
 use Rattle.p4_types.specs.declared.events.Event.{Event}
 use Rattle.p4_types.specs.declared.tape.Who.TheVariants.{Worker}
-use Rattle.switch_spec.specs.Answer.{LaneCall, answer}
+use Rattle.p4_types.specs.declared.tape.TapeRecord.{TapeRecord}
+use Rattle.switch_spec.specs.Answer.{LaneCall, Asks, Leaves, answer}
 use Rattle.switch_spec.specs.Control.{Control, applied}
 use Rattle.switch_spec.specs.History.{Made, History, Numbered, own_events, steps_of, expected, answered, refused_for_memory}
 use Rattle.switch_spec.specs.Meaning.{meaning, record_of}
-use Rattle.switch_spec.specs.Play.{Played, next_call, next_packet, play_call, play_refusal, play_packet, Turn, Answers, Refuses, Carries, items_of, play}
+use Rattle.switch_spec.specs.Play.{Played, next_call, next_packet, play_call, play_refusal, play_packet, Turn, Answers, Refuses, Carries, call_item, items_of, play}
 use Rattle.switch_spec.specs.Report.{Carried, InTurn, Lockstep}
 use Rattle.switch_spec.specs.ReportText.{is_who}
 use Rattle.switch_spec.proofs.Answers.{answer_sound}
@@ -36,36 +37,42 @@ carried_packet p lane port packet =
 -- the calls that the rest of a tape makes
 abbrev pub made : Played → List Turn → List Made
 made p [] = []
-made p (Answers lane method message ∷ tape) =
-    let call : LaneCall = record { method = method; message = message } in made_call p lane call ∷ made (play_call p lane call) tape
-made p (Refuses lane method message ∷ tape) = made_refusal p lane (record { method = method; message = message }) ∷ made (play_refusal p lane) tape
+made p (Answers lane call ∷ tape) =
+    made_call p lane call ∷ made (play_call p lane call) tape
+made p (Refuses lane call ∷ tape) = made_refusal p lane call ∷ made (play_refusal p lane) tape
 made p (Carries lane port packet ∷ tape) = made (play_packet p lane port packet) tape
 
 -- the packets that it brings
 abbrev pub carried : Played → List Turn → List Carried
 carried p [] = []
-carried p (Answers lane method message ∷ tape) = carried (play_call p lane (record { method = method; message = message })) tape
-carried p (Refuses lane method message ∷ tape) = carried (play_refusal p lane) tape
+carried p (Answers lane call ∷ tape) = carried (play_call p lane call) tape
+carried p (Refuses lane call ∷ tape) = carried (play_refusal p lane) tape
 carried p (Carries lane port packet ∷ tape) = carried_packet p lane port packet ∷ carried (play_packet p lane port packet) tape
 
 pub journal_played : (p : Played) (tape : List Turn) → (fold play p tape).journal ≡ p.journal ++ map (λ m. m.entry) (made p tape)
 unfolding play
 journal_played p [] = sym (append-nil p.journal)
-journal_played p (Answers lane method message ∷ tape) = journal_played (play_call p lane _) tape ∙ append_assoc p.journal _ _
-journal_played p (Refuses lane method message ∷ tape) = journal_played (play_refusal p lane) tape ∙ append_assoc p.journal _ _
+journal_played p (Answers lane call ∷ tape) = journal_played (play_call p lane _) tape ∙ append_assoc p.journal _ _
+journal_played p (Refuses lane call ∷ tape) = journal_played (play_refusal p lane) tape ∙ append_assoc p.journal _ _
 journal_played p (Carries lane port packet ∷ tape) = journal_played (play_packet p lane port packet) tape
 
 pub records_played : (p : Played) (tape : List Turn) → (fold play p tape).records ≡ p.records ++ map (λ c. c.outcome) (carried p tape)
 unfolding play
 records_played p [] = sym (append-nil p.records)
-records_played p (Answers lane method message ∷ tape) = records_played (play_call p lane _) tape
-records_played p (Refuses lane method message ∷ tape) = records_played (play_refusal p lane) tape
+records_played p (Answers lane call ∷ tape) = records_played (play_call p lane _) tape
+records_played p (Refuses lane call ∷ tape) = records_played (play_refusal p lane) tape
 records_played p (Carries lane port packet ∷ tape) = records_played (play_packet p lane port packet) tape ∙ append_assoc p.records _ _
+
+-- a lane's call on the tape is followed by its entry, and only by it
+pub lockstep_call : (call : LaneCall) (n lane : ℕ) (tape : List TapeRecord) (m : Made) (journal : List Made) (records : List Carried) → m.entry.lane ≡ lane → m.call ≡ call
+    → Lockstep m.entry.reply.steps tape journal records → Lockstep n (call_item lane call ∷ tape) (m ∷ journal) records
+lockstep_call (Asks method message) n lane tape m journal records lane_is call_is rest = (lane_is, call_is, rest)
+lockstep_call Leaves n lane tape m journal records lane_is call_is rest = (lane_is, call_is, rest)
 
 pub lockstep_played : (p : Played) (tape : List Turn) → Lockstep p.steps (items_of tape) (made p tape) (carried p tape)
 lockstep_played p [] = (refl, refl)
-lockstep_played p (Answers lane method message ∷ tape) = (refl, refl, lockstep_played (play_call p lane _) tape)
-lockstep_played p (Refuses lane method message ∷ tape) = (refl, refl, lockstep_played (play_refusal p lane) tape)
+lockstep_played p (Answers lane call ∷ tape) = lockstep_call call p.steps lane (items_of tape) (made_call p lane call) _ _ refl refl (lockstep_played (play_call p lane call) tape)
+lockstep_played p (Refuses lane call ∷ tape) = lockstep_call call p.steps lane (items_of tape) (made_refusal p lane call) _ _ refl refl (lockstep_played (play_refusal p lane) tape)
 lockstep_played p (Carries lane port packet ∷ tape) = (refl, refl, refl, lockstep_played (play_packet p lane port packet) tape)
 
 -- a call that is answered has the entry that it has to have, and its events are its own
@@ -79,30 +86,28 @@ own_events_of c n lane k call = cond-false _ _ _ (answer_sound c lane k call).av
 
 pub history_played : (p : Played) (tape : List Turn) → History p.control p.steps (made p tape)
 history_played p [] = tt
-history_played p (Answers lane method message ∷ tape) =
-    let call : LaneCall = record { method = method; message = message } in
+history_played p (Answers lane call ∷ tape) =
     let rest : History (play_call p lane call).control (play_call p lane call).steps (made (play_call p lane call) tape) = history_played (play_call p lane call) tape in (
       is_expected p.control p.steps lane (next_call lane p) call,
       let P : List Event → Type 0 = λ list. History (applied p.control list) (play_call p lane call).steps (made (play_call p lane call) tape) in
           subst P (sym (own_events_of p.control p.steps lane (next_call lane p) call)) rest,
     )
-history_played p (Refuses lane method message ∷ tape) =
+history_played p (Refuses lane call ∷ tape) =
     let P : ℕ → Type 0 = λ n. History p.control n (made (play_refusal p lane) tape) in (refl, subst P (sym (add-zero p.steps)) (history_played (play_refusal p lane) tape))
 history_played p (Carries lane port packet ∷ tape) = history_played (play_packet p lane port packet) tape
 
 pub numbered_played : (p : Played) (tape : List Turn) → Numbered p.journal (map (λ m. m.entry) (made p tape))
 numbered_played p [] = tt
-numbered_played p (Answers lane method message ∷ tape) = (refl, numbered_played (play_call p lane _) tape)
-numbered_played p (Refuses lane method message ∷ tape) = (refl, numbered_played (play_refusal p lane) tape)
+numbered_played p (Answers lane call ∷ tape) = (refl, numbered_played (play_call p lane _) tape)
+numbered_played p (Refuses lane call ∷ tape) = (refl, numbered_played (play_refusal p lane) tape)
 numbered_played p (Carries lane port packet ∷ tape) = numbered_played (play_packet p lane port packet) tape
 
 pub in_turn_played : (p : Played) (tape : List Turn) → AllByRecursion (λ r. r.steps ≤ p.steps) p.records → InTurn p.records (map (λ c. c.outcome) (carried p tape))
 in_turn_played p [] h = tt
-in_turn_played p (Answers lane method message ∷ tape) h =
-    let call : LaneCall = record { method = method; message = message } in
+in_turn_played p (Answers lane call ∷ tape) h =
     in_turn_played (play_call p lane call) tape
     (All-weaken (λ r. r.steps ≤ p.steps) (λ r. r.steps ≤ p.steps + length (steps_of (call_events p lane call))) (λ r le. omega (arith, le)) p.records h)
-in_turn_played p (Refuses lane method message ∷ tape) h = in_turn_played (play_refusal p lane) tape h
+in_turn_played p (Refuses lane call ∷ tape) h = in_turn_played (play_refusal p lane) tape h
 in_turn_played p (Carries lane port packet ∷ tape) h = (
   refl,
   All-filter (λ r. r.steps ≤ p.steps) (λ r. is_who (Worker lane) r.who) p.records h,

@@ -4,10 +4,10 @@ use Rattle.std.specs.Int.{w16, w32, to_be_bytes}
 use Rattle.std.proofs.lemmas.Bool.{ne_eqb}
 use Rattle.std.proofs.lemmas.Nat.{be_bytes_2, be_bytes_4}
 use Rattle.p4_types.specs.declared.tape.TapeRecord.{TapeRecord}
-use Rattle.p4_types.specs.declared.tape.TapeRecord.TheVariants.{Call, Packet}
+use Rattle.p4_types.specs.declared.tape.TapeRecord.TheVariants.{Call, Packet, Leave}
 use Rattle.wire_fields.specs.Reading.{◌>>=◌}
-use Rattle.switch_spec.specs.Tape.{record_bytes, IsCall, IsPacket, IsRecord, end_bytes}
-use Rattle.switch_spec.specs.TapeReading.{number_at, bytes_at, call_at, packet_at, end_at, item_at}
+use Rattle.switch_spec.specs.Tape.{record_bytes, IsCall, IsPacket, IsLeave, IsRecord, end_bytes}
+use Rattle.switch_spec.specs.TapeReading.{number_at, bytes_at, call_at, packet_at, leave_at, end_at, item_at}
 use Rattle.switch_spec.proofs.Readers.{bind_ok, ok_is, Read, IsFlawed, IsReader, then, then_reader, gives, gives_reader, same_reader, digits_of, IsRange, number_found, number_again, number_reader, bytes_found, bytes_again, bytes_reader, clash_err, err_is}
 
 -- ---- digits as bytes of a width
@@ -193,13 +193,60 @@ packet_found bytes x e =
     ap (λ (w : List ℕ). 2 ∷ w) joined ∙ ap (λ (n : ℕ). 2 ∷ packet_body lane n c.0.0 d.0.0 d.0.1) sized ∙ sym (packet_body_is lane c.0.0 d.0.0 d.0.1 made) in
     subst (λ (y : TapeRecord × List ℕ). IsSpelled 2 bytes y) (ok_is {E = ℕ} (Packet lane c.0.0 d.0.0, d.0.1) x d.2) (spelled, made)
 
+-- ---- ends of streams
+
+zeros_4 : IsRange 4 0 0
+zeros_4 = record { order = omega arith; fits = omega arith }
+
+digits_zero : (k n : ℕ) → n ≤ 0 → digits_of k n ≡ digits_of k 0
+digits_zero k n le = ap (digits_of k) (omega arith)
+
+abbrev leave_size : ℕ → Read TapeRecord
+leave_size lane = then (number_at 4 0 0) (λ size. gives (Leave lane))
+
+abbrev leave_read : Read TapeRecord
+leave_read = then (number_at 2 0 31) (λ lane. leave_size lane)
+
+leave_is : (bytes : List ℕ) → leave_at bytes ≡ leave_read bytes
+unfolding leave_at
+leave_is bytes = refl
+
+pub leave_reader : IsReader leave_at
+leave_reader = same_reader leave_read leave_at leave_is
+    (then_reader (number_at 2 0 31) (λ lane. leave_size lane) (number_reader 2 0 31 lanes_32) (λ lane.
+    then_reader (number_at 4 0 0) (λ size. gives (Leave lane)) (number_reader 4 0 0 zeros_4) (λ size. gives_reader (Leave lane))))
+
+-- what stands behind the kind of a stream's end, by digits
+abbrev leave_body : ℕ → List ℕ → List ℕ
+leave_body lane rest = digits_of 2 lane ++ (digits_of 4 0 ++ rest)
+
+leave_body_is : (lane : ℕ) (rest : List ℕ) → IsLeave lane → record_bytes (Leave lane) ++ rest ≡ 4 ∷ leave_body lane rest
+leave_body_is lane rest c =
+    ap₂ (λ (a b : List ℕ). (4 ∷ a ++ b ++ []) ++ rest) (digits_2 lane (omega (arith, c.of_controller))) (digits_4 0 (omega arith))
+
+leave_again : (lane : ℕ) (rest : List ℕ) → IsLeave lane → leave_at (leave_body lane rest) ≡ Ok (Leave lane, rest)
+leave_again lane rest c =
+    leave_is (leave_body lane rest)
+    ∙ ap (λ (r : Result (ℕ × List ℕ) ℕ). r >>= λ x. leave_size x.0 x.1) (number_again 2 0 31 lane (digits_of 4 0 ++ rest) lanes_32 (omega arith) (omega (arith, c.of_controller)))
+    ∙ ap (λ (r : Result (ℕ × List ℕ) ℕ). r >>= λ x. gives (Leave lane) x.1) (number_again 4 0 0 0 rest zeros_4 (omega arith) (omega arith))
+
+leave_found : (bytes : List ℕ) (x : TapeRecord × List ℕ) → leave_at bytes ≡ Ok x → IsSpelled 4 bytes x
+leave_found bytes x e =
+    let a = bind_ok (number_at 2 0 31 bytes) (λ y. leave_size y.0 y.1) x (sym (leave_is bytes) ∙ e) in
+    let lane = a.0.0 in
+    let b = bind_ok (number_at 4 0 0 a.0.1) (λ y. gives (Leave lane) y.1) x a.2 in
+    let f0 = number_found 2 0 31 bytes lane a.0.1 lanes_32 a.1 in
+    let f1 = number_found 4 0 0 a.0.1 b.0.0 b.0.1 zeros_4 b.1 in
+    let made : IsLeave lane = record { of_controller = omega (arith, f0.2) } in
+    let joined : bytes ≡ leave_body lane b.0.1 =
+    f0.0 ∙ ap (λ (w : List ℕ). digits_of 2 lane ++ w) (f1.0 ∙ ap (λ (w : List ℕ). w ++ b.0.1) (digits_zero 4 b.0.0 f1.2)) in
+    let spelled : 4 ∷ bytes ≡ record_bytes (Leave lane) ++ b.0.1 = ap (λ (w : List ℕ). 4 ∷ w) joined ∙ sym (leave_body_is lane b.0.1 made) in
+    subst (λ (y : TapeRecord × List ℕ). IsSpelled 4 bytes y) (ok_is {E = ℕ} (Leave lane, b.0.1) x b.2) (spelled, made)
+
 -- ---- the end record
 
 zeros_2 : IsRange 2 0 0
 zeros_2 = record { order = omega arith; fits = omega arith }
-
-zeros_4 : IsRange 4 0 0
-zeros_4 = record { order = omega arith; fits = omega arith }
 
 -- an item behind its kind
 abbrev Item : Type 0
@@ -239,9 +286,6 @@ end_again rest =
     ∙ ap (λ (r : Result (ℕ × List ℕ) ℕ). r >>= λ x. end_size x.1) (number_again 2 0 0 0 (0 ∷ 0 ∷ 0 ∷ 0 ∷ rest) zeros_2 (omega arith) (omega arith))
     ∙ ap (λ (r : Result (ℕ × List ℕ) ℕ). r >>= λ x. gives {X = Item} None x.1) (number_again 4 0 0 0 rest zeros_4 (omega arith) (omega arith))
 
-digits_zero : (k n : ℕ) → n ≤ 0 → digits_of k n ≡ digits_of k 0
-digits_zero k n le = ap (digits_of k) (omega arith)
-
 end_found : (bytes : List ℕ) (x : Item × List ℕ) → end_item bytes ≡ Ok x → (0 ∷ bytes ≡ end_bytes ++ x.1) × (None ≡ x.0)
 end_found bytes x e =
     let a = bind_ok (number_at 2 0 0 bytes) (λ y. end_size y.1) x (sym (end_is bytes) ∙ e) in
@@ -278,23 +322,35 @@ item_2 : (bytes : List ℕ) → item_at (2 ∷ bytes) ≡ some_of packet_at byte
 unfolding item_at
 item_2 bytes = refl
 
-item_other : (kind : ℕ) (bytes : List ℕ) → 2 < kind → item_at (kind ∷ bytes) ≡ Err (suc (length bytes))
+item_4 : (bytes : List ℕ) → item_at (4 ∷ bytes) ≡ some_of leave_at bytes
 unfolding item_at
-item_other kind bytes gt =
+item_4 bytes = refl
+
+-- a kind that no record has
+abbrev IsUnknown : ℕ → Type 0
+IsUnknown kind = (kind ≡ 3) ⊎ (4 < kind)
+
+item_other : (kind : ℕ) (bytes : List ℕ) → IsUnknown kind → item_at (kind ∷ bytes) ≡ Err (suc (length bytes))
+unfolding item_at
+item_other kind bytes (inl is) = ap (λ (k : ℕ). item_at (k ∷ bytes)) is
+item_other kind bytes (inr gt) =
     let n0 : eqb kind 0 ≡ false = ne_eqb kind 0 (λ e. omega arith) in
     let n1 : eqb kind 1 ≡ false = ne_eqb kind 1 (λ e. omega arith) in
     let n2 : eqb kind 2 ≡ false = ne_eqb kind 2 (λ e. omega arith) in
-    rw (n0, n1, n2) refl
+    let n4 : eqb kind 4 ≡ false = ne_eqb kind 4 (λ e. omega arith) in
+    rw (n0, n1, n2, n4) refl
 
 item_none : item_at [] ≡ Err 0
 unfolding item_at
 item_none = refl
 
-which_kind : (kind : ℕ) → (kind ≡ 0) ⊎ ((kind ≡ 1) ⊎ ((kind ≡ 2) ⊎ (2 < kind)))
+which_kind : (kind : ℕ) → (kind ≡ 0) ⊎ ((kind ≡ 1) ⊎ ((kind ≡ 2) ⊎ ((kind ≡ 4) ⊎ IsUnknown kind)))
 which_kind zero = inl refl
 which_kind (suc zero) = inr (inl refl)
 which_kind (suc (suc zero)) = inr (inr (inl refl))
-which_kind (suc (suc (suc k))) = inr (inr (inr (omega arith)))
+which_kind (suc (suc (suc zero))) = inr (inr (inr (inr (inl refl))))
+which_kind (suc (suc (suc (suc zero)))) = inr (inr (inr (inl refl)))
+which_kind (suc (suc (suc (suc (suc k))))) = inr (inr (inr (inr (inr (omega arith)))))
 
 abbrev IsItemSpelled : List ℕ → Item × List ℕ → Type 0
 IsItemSpelled bytes x = (bytes ≡ item_bytes x.0 ++ x.1) × IsItem x.0
@@ -316,7 +372,8 @@ found_at kind bytes x e =
       | inl k ↦ subst (λ (n : ℕ). item_at (n ∷ bytes) ≡ Ok x → IsItemSpelled (n ∷ bytes) x) (sym k) (λ h. none_found bytes x (sym (item_0 bytes) ∙ h)) e
       | inr (inl k) ↦ subst (λ (n : ℕ). item_at (n ∷ bytes) ≡ Ok x → IsItemSpelled (n ∷ bytes) x) (sym k) (λ h. some_found 1 call_at bytes x (call_found bytes) (sym (item_1 bytes) ∙ h)) e
       | inr (inr (inl k)) ↦ subst (λ (n : ℕ). item_at (n ∷ bytes) ≡ Ok x → IsItemSpelled (n ∷ bytes) x) (sym k) (λ h. some_found 2 packet_at bytes x (packet_found bytes) (sym (item_2 bytes) ∙ h)) e
-      | inr (inr (inr k)) ↦ clash_err x (suc (length bytes)) (sym e ∙ item_other kind bytes k)
+      | inr (inr (inr (inl k))) ↦ subst (λ (n : ℕ). item_at (n ∷ bytes) ≡ Ok x → IsItemSpelled (n ∷ bytes) x) (sym k) (λ h. some_found 4 leave_at bytes x (leave_found bytes) (sym (item_4 bytes) ∙ h)) e
+      | inr (inr (inr (inr k))) ↦ clash_err x (suc (length bytes)) (sym e ∙ item_other kind bytes k)
     ]
 
 -- an item that is read is spelled so
@@ -333,6 +390,9 @@ item_again (Some (Call lane method message)) rest fits =
 item_again (Some (Packet lane port packet)) rest fits =
     ap item_at (packet_body_is lane port packet rest fits) ∙ item_2 (packet_body lane (suc (suc (length packet))) port packet rest)
     ∙ ap (λ (r : Result (TapeRecord × List ℕ) ℕ). r >>= λ x. gives {X = Item} (Some x.0) x.1) (packet_again lane port packet rest fits)
+item_again (Some (Leave lane)) rest fits =
+    ap item_at (leave_body_is lane rest fits) ∙ item_4 (leave_body lane rest)
+    ∙ ap (λ (r : Result (TapeRecord × List ℕ) ℕ). r >>= λ x. gives {X = Item} (Some x.0) x.1) (leave_again lane rest fits)
 
 -- a flaw behind a kind
 behind : (kind : ℕ) (read : Read Item) (bytes : List ℕ) (left : ℕ) → ((more : List ℕ) → item_at (kind ∷ more) ≡ read more) → IsReader read → item_at (kind ∷ bytes) ≡ Err left → IsFlawed item_at (kind ∷ bytes) left
@@ -350,16 +410,16 @@ behind kind read bytes left is r e =
     }
 
 -- no item begins with this kind, or with no kind at all
-unknown_kind : (kind : ℕ) (bytes : List ℕ) (left : ℕ) → 2 < kind → item_at (kind ∷ bytes) ≡ Err left → IsFlawed item_at (kind ∷ bytes) left
-unknown_kind kind bytes left gt e = record {
+unknown_kind : (kind : ℕ) (bytes : List ℕ) (left : ℕ) → IsUnknown kind → item_at (kind ∷ bytes) ≡ Err left → IsFlawed item_at (kind ∷ bytes) left
+unknown_kind kind bytes left unknown e = record {
   front = [];
   tail = kind ∷ bytes;
   parts = refl;
-  size = err_is {X = Item × List ℕ} (suc (length bytes)) left (sym (item_other kind bytes gt) ∙ e);
+  size = err_is {X = Item × List ℕ} (suc (length bytes)) left (sym (item_other kind bytes unknown) ∙ e);
   more = end_bytes;
   value = None;
   goes_on = item_again None [] tt;
-  worse = λ b rest more h. let same : kind ≡ b = cc in ap (λ (k : ℕ). item_at (k ∷ more)) (sym same) ∙ item_other kind more gt;
+  worse = λ b rest more h. let same : kind ≡ b = cc in ap (λ (k : ℕ). item_at (k ∷ more)) (sym same) ∙ item_other kind more unknown;
 }
 
 flaw_at : (kind : ℕ) (bytes : List ℕ) (left : ℕ) → item_at (kind ∷ bytes) ≡ Err left → IsFlawed item_at (kind ∷ bytes) left
@@ -370,7 +430,9 @@ flaw_at kind bytes left e =
           (behind 1 (some_of call_at) bytes left item_1 (then_reader call_at (λ first. gives (Some first)) call_reader (λ first. gives_reader (Some first)))) e
       | inr (inr (inl k)) ↦ subst (λ (n : ℕ). item_at (n ∷ bytes) ≡ Err left → IsFlawed item_at (n ∷ bytes) left) (sym k)
           (behind 2 (some_of packet_at) bytes left item_2 (then_reader packet_at (λ first. gives (Some first)) packet_reader (λ first. gives_reader (Some first)))) e
-      | inr (inr (inr k)) ↦ unknown_kind kind bytes left k e
+      | inr (inr (inr (inl k))) ↦ subst (λ (n : ℕ). item_at (n ∷ bytes) ≡ Err left → IsFlawed item_at (n ∷ bytes) left) (sym k)
+          (behind 4 (some_of leave_at) bytes left item_4 (then_reader leave_at (λ first. gives (Some first)) leave_reader (λ first. gives_reader (Some first)))) e
+      | inr (inr (inr (inr k))) ↦ unknown_kind kind bytes left k e
     ]
 
 -- the place of an item's flaw is exact

@@ -3,7 +3,7 @@ use Rattle.std.proofs.Common.{cond, Bool, ◌≡◌, ℕ, zero, suc, ◌<◌, �
 use Rattle.std.proofs.lemmas.Bool.{and_parts, and_from, leb-true, le-leb}
 use Rattle.std.proofs.lemmas.List.Elements.{All-nil, All-cons, All-head, All-tail}
 use Rattle.p4_types.specs.declared.tape.TapeRecord.{TapeRecord}
-use Rattle.p4_types.specs.declared.tape.TapeRecord.TheVariants.{Call, Packet}
+use Rattle.p4_types.specs.declared.tape.TapeRecord.TheVariants.{Call, Packet, Leave}
 use Rattle.wire_fields.specs.Reading.{◌>>=◌}
 use Rattle.switch_spec.specs.Tape.{record_bytes, IsRecord, end_bytes}
 use Rattle.switch_spec.specs.TapeReading.{Flaw, Bad, TooMany, item_at, or_bad, begins_counted, item_within, nothing_after, with_first, records_at}
@@ -89,6 +89,7 @@ uncounted : (o : Item) (bytes rest : List ℕ) → begins_counted bytes ≡ fals
 uncounted None bytes rest n e = e
 uncounted (Some (Call lane method message)) bytes rest n e = absurd (apart (sym (ap begins_counted e) ∙ n))
 uncounted (Some (Packet lane port packet)) bytes rest n e = absurd (apart (sym (ap begins_counted e) ∙ n))
+uncounted (Some (Leave lane)) bytes rest n e = absurd (apart (sym (ap begins_counted e) ∙ n))
 
 -- ---- reading what is spelled
 

@@ -2,8 +2,8 @@
 use Rattle.std.proofs.Common.{◌≡◌, ℕ, List, [], ◌∷◌, map, refl, subst}
 use Rattle.std.specs.Fmt.{digits}
 use Rattle.hex.specs.Hex.{encode_with}
-use Rattle.p4_types.specs.declared.tape.TapeRecord.{TapeRecord}
-use Rattle.p4_types.specs.declared.tape.TapeRecord.TheVariants.{Packet}
+use Rattle.p4_types.specs.declared.events.Start.{Start}
+use Rattle.p4_types.specs.declared.tape.TapeRecord.TheVariants.{Packet, Leave}
 use Rattle.canon_bytes.specs.Bits.{bits, num}
 use Rattle.canon_bytes.specs.ByteString.{canon}
 use Rattle.p4v1_read.specs.Calls.{call_by}
@@ -23,32 +23,39 @@ use Rattle.switch_spec.specs.Status.{status_bytes, error_bytes, aborted_bytes, d
 use Rattle.switch_spec.specs.UpdateRules.{entry_cause, resolution}
 use Rattle.wire_fields.specs.Reading.{varint_in, bytes_at as length_bytes_at, tag_at, field_at}
 use Rattle.wire_fields.specs.Spelling.{varint_from}
+use Rattle.p4v1_wire.specs.StatusRows.{any_rows, status_rows}
+use Rattle.p4v1_wire.specs.StreamRows.{uint128_rows, role_rows, arbitration_rows, stream_rows}
+use Rattle.wire_messages.specs.Written.{written, row_bytes}
 use Rattle.wire_messages.specs.Message.{number_at, packed_in, uint32s_at, bytes_at, text_at, texts_at, messages_at, message_at, choice_at}
 use Rattle.switch_spec.specs.Report.{IsLockstepReport}
 use Rattle.switch_spec.specs.ReportText.{report_text}
-use Rattle.switch_spec.specs.Rows.{inserting, frame_to, cut_frame, bridge_start, EmptyTape, OneEntryOnePacket, InsertTwice, TableFull, ShortPacket}
+use Rattle.switch_spec.specs.Rows.{inserting, frame_to, cut_frame, bridge_start, bare_start, arbitrating, writing_nothing, BackupWaits, EmptyTape, OneEntryOnePacket, InsertTwice, TableFull, ShortPacket}
 use Rattle.switch_spec.proofs.Fitting.{played_is_report}
 
 -- the report of turns whose run computes to this text
-worked : (turns : List Turn) (text : List ℕ) → report_text (played_report (played bridge_start turns)) ≡ text → IsLockstepReport bridge_start (items_of turns) text
-worked turns text is = let P : List ℕ → Type 0 = λ t. IsLockstepReport bridge_start (items_of turns) t in subst P is (played_is_report bridge_start turns)
+worked : (start : Start) (turns : List Turn) (text : List ℕ) → report_text (played_report (played start turns)) ≡ text → IsLockstepReport start (items_of turns) text
+worked start turns text is = let P : List ℕ → Type 0 = λ t. IsLockstepReport start (items_of turns) t in subst P is (played_is_report start turns)
 
 pub empty_tape : EmptyTape
 unfolding bits num canon call_by param_of action_of exact_of ternary_of lpm_of range_of optional_of kind_by kind_of field_match_of profile_action_of action_set_of table_action_by table_action_of counter_data_of table_entry_of profile_member_of group_member_of profile_group_of index_of counter_entry_of direct_counter_entry_of digest_config_of digest_entry_of entity_by entity_of fields_in fields_of one_at all_at inside_at member_at opaque_at uint128_of election_id_at update_of write_request_of read_request_of cookie_of config_of set_request_of get_request_of any_of status_of role_of arbitration_of metadata_of packet_out_of digest_ack_of stream_by stream_of answer bridge_info change_applied outcome best entry_named insert_cause absence_cause inserted modified deleted meaning play chunks read_result status_bytes error_bytes aborted_bytes detail_bytes write_status capabilities_bytes entry_cause resolution varint_in length_bytes_at tag_at field_at varint_from number_at packed_in uint32s_at bytes_at text_at texts_at messages_at message_at choice_at digits encode_with
-empty_tape = record { bytes = refl; report = worked (map answering ([])) _ refl }
+empty_tape = record { bytes = refl; report = worked bridge_start (map answering ([])) _ refl }
 
 pub one_entry_one_packet : OneEntryOnePacket
 unfolding bits num canon call_by param_of action_of exact_of ternary_of lpm_of range_of optional_of kind_by kind_of field_match_of profile_action_of action_set_of table_action_by table_action_of counter_data_of table_entry_of profile_member_of group_member_of profile_group_of index_of counter_entry_of direct_counter_entry_of digest_config_of digest_entry_of entity_by entity_of fields_in fields_of one_at all_at inside_at member_at opaque_at uint128_of election_id_at update_of write_request_of read_request_of cookie_of config_of set_request_of get_request_of any_of status_of role_of arbitration_of metadata_of packet_out_of digest_ack_of stream_by stream_of answer bridge_info change_applied outcome best entry_named insert_cause absence_cause inserted modified deleted meaning play chunks read_result status_bytes error_bytes aborted_bytes detail_bytes write_status capabilities_bytes entry_cause resolution varint_in length_bytes_at tag_at field_at varint_from number_at packed_in uint32s_at bytes_at text_at texts_at messages_at message_at choice_at digits encode_with
-one_entry_one_packet = record { bytes = refl; report = worked (map answering (inserting 2 ∷ Packet 0 1 (frame_to 2) ∷ Packet 0 1 (frame_to 3) ∷ [])) _ refl }
+one_entry_one_packet = record { bytes = refl; report = worked bridge_start (map answering (inserting 2 ∷ Packet 0 1 (frame_to 2) ∷ Packet 0 1 (frame_to 3) ∷ [])) _ refl }
 
 pub insert_twice : InsertTwice
 unfolding bits num canon call_by param_of action_of exact_of ternary_of lpm_of range_of optional_of kind_by kind_of field_match_of profile_action_of action_set_of table_action_by table_action_of counter_data_of table_entry_of profile_member_of group_member_of profile_group_of index_of counter_entry_of direct_counter_entry_of digest_config_of digest_entry_of entity_by entity_of fields_in fields_of one_at all_at inside_at member_at opaque_at uint128_of election_id_at update_of write_request_of read_request_of cookie_of config_of set_request_of get_request_of any_of status_of role_of arbitration_of metadata_of packet_out_of digest_ack_of stream_by stream_of answer bridge_info change_applied outcome best entry_named insert_cause absence_cause inserted modified deleted meaning play chunks read_result status_bytes error_bytes aborted_bytes detail_bytes write_status capabilities_bytes entry_cause resolution varint_in length_bytes_at tag_at field_at varint_from number_at packed_in uint32s_at bytes_at text_at texts_at messages_at message_at choice_at digits encode_with
-insert_twice = record { bytes = refl; report = worked (map answering (inserting 2 ∷ inserting 2 ∷ [])) _ refl }
+insert_twice = record { bytes = refl; report = worked bridge_start (map answering (inserting 2 ∷ inserting 2 ∷ [])) _ refl }
 
 pub table_full : TableFull
 unfolding bits num canon call_by param_of action_of exact_of ternary_of lpm_of range_of optional_of kind_by kind_of field_match_of profile_action_of action_set_of table_action_by table_action_of counter_data_of table_entry_of profile_member_of group_member_of profile_group_of index_of counter_entry_of direct_counter_entry_of digest_config_of digest_entry_of entity_by entity_of fields_in fields_of one_at all_at inside_at member_at opaque_at uint128_of election_id_at update_of write_request_of read_request_of cookie_of config_of set_request_of get_request_of any_of status_of role_of arbitration_of metadata_of packet_out_of digest_ack_of stream_by stream_of answer bridge_info change_applied outcome best entry_named insert_cause absence_cause inserted modified deleted meaning play chunks read_result status_bytes error_bytes aborted_bytes detail_bytes write_status capabilities_bytes entry_cause resolution varint_in length_bytes_at tag_at field_at varint_from number_at packed_in uint32s_at bytes_at text_at texts_at messages_at message_at choice_at digits encode_with
-table_full = record { bytes = refl; report = worked (map answering (inserting 2 ∷ inserting 3 ∷ inserting 4 ∷ inserting 5 ∷ inserting 6 ∷ [])) _ refl }
+table_full = record { bytes = refl; report = worked bridge_start (map answering (inserting 2 ∷ inserting 3 ∷ inserting 4 ∷ inserting 5 ∷ inserting 6 ∷ [])) _ refl }
 
 pub short_packet : ShortPacket
 unfolding bits num canon call_by param_of action_of exact_of ternary_of lpm_of range_of optional_of kind_by kind_of field_match_of profile_action_of action_set_of table_action_by table_action_of counter_data_of table_entry_of profile_member_of group_member_of profile_group_of index_of counter_entry_of direct_counter_entry_of digest_config_of digest_entry_of entity_by entity_of fields_in fields_of one_at all_at inside_at member_at opaque_at uint128_of election_id_at update_of write_request_of read_request_of cookie_of config_of set_request_of get_request_of any_of status_of role_of arbitration_of metadata_of packet_out_of digest_ack_of stream_by stream_of answer bridge_info change_applied outcome best entry_named insert_cause absence_cause inserted modified deleted meaning play chunks read_result status_bytes error_bytes aborted_bytes detail_bytes write_status capabilities_bytes entry_cause resolution varint_in length_bytes_at tag_at field_at varint_from number_at packed_in uint32s_at bytes_at text_at texts_at messages_at message_at choice_at digits encode_with
-short_packet = record { bytes = refl; report = worked (map answering (inserting 0 ∷ Packet 0 1 cut_frame ∷ [])) _ refl }
+short_packet = record { bytes = refl; report = worked bridge_start (map answering (inserting 0 ∷ Packet 0 1 cut_frame ∷ [])) _ refl }
+
+pub backup_waits : BackupWaits
+unfolding bits num canon call_by param_of action_of exact_of ternary_of lpm_of range_of optional_of kind_by kind_of field_match_of profile_action_of action_set_of table_action_by table_action_of counter_data_of table_entry_of profile_member_of group_member_of profile_group_of index_of counter_entry_of direct_counter_entry_of digest_config_of digest_entry_of entity_by entity_of fields_in fields_of one_at all_at inside_at member_at opaque_at uint128_of election_id_at update_of write_request_of read_request_of cookie_of config_of set_request_of get_request_of any_of status_of role_of arbitration_of metadata_of packet_out_of digest_ack_of stream_by stream_of answer bridge_info change_applied outcome best entry_named insert_cause absence_cause inserted modified deleted meaning play chunks read_result status_bytes error_bytes aborted_bytes detail_bytes write_status capabilities_bytes entry_cause resolution varint_in length_bytes_at tag_at field_at varint_from number_at packed_in uint32s_at bytes_at text_at texts_at messages_at message_at choice_at digits encode_with arbitration_rows role_rows uint128_rows status_rows stream_rows any_rows written row_bytes
+backup_waits = record { bytes = refl; report = worked bare_start (map answering (arbitrating 0 5 ∷ arbitrating 1 3 ∷ Leave 0 ∷ writing_nothing 1 3 ∷ arbitrating 1 6 ∷ [])) _ refl }

@@ -11,18 +11,32 @@ use Rattle.p4_types.specs.declared.code.Code.TheVariants as codes
 use Rattle.p4_types.specs.declared.events.Event.{Event}
 use Rattle.p4_types.specs.declared.events.Event.TheVariants as events
 use Rattle.p4_types.specs.declared.events.Origin.{Origin}
+use Rattle.p4_types.specs.declared.messages.MasterArbitrationUpdate.{MasterArbitrationUpdate}
+use Rattle.p4_types.specs.declared.messages.StreamMessageRequest.{StreamMessageRequest}
+use Rattle.p4_types.specs.declared.messages.StreamMessageRequest.TheVariants as requests
 use Rattle.p4_types.specs.declared.messages.Update.{Update}
 use Rattle.p4_types.specs.declared.messages.WriteRequest.{WriteRequest}
 use Rattle.p4_types.specs.declared.table.Change.{Change}
 use Rattle.p4v1_read.specs.Calls.{call_of}
-use Rattle.switch_spec.specs.Control.{Control, Plane, primary, bears, outcome, change_applied}
+use Rattle.role_arbiter.specs.declared.sessions.Session.{Session}
+use Rattle.role_arbiter.specs.Arbitration.{cause, asked, arbitrated, left}
+use Rattle.role_arbiter.specs.State.{session_in}
+use Rattle.role_arbiter.specs.Telling.{told_at_arbitration, told_at_leave}
+use Rattle.switch_spec.specs.Control.{Control, primary, bears, outcome, change_applied}
+use Rattle.switch_spec.specs.Notices.{standing_notices, unserved_notice}
 use Rattle.switch_spec.specs.Reading.{read_result}
 use Rattle.switch_spec.specs.Status.{status_bytes, error_bytes, aborted_bytes, write_status, capabilities_bytes}
 
--- a call as its lane brings it: 1 Write, 2 Read, 3 Set, 4 Get, 5 a stream message, 6 Capabilities, and the message
-pub record LaneCall : Type 0 where
-  pub method : ℕ
-  pub message : List ℕ
+-- A call as its lane brings it: a message with its method (1 Write, 2 Read, 3 Set, 4 Get, 5 a stream message,
+-- 6 Capabilities), or the end of its stream.
+pub data LaneCall : Type 0 where
+  Asks : (method : ℕ) (message : List ℕ) → LaneCall
+  Leaves : LaneCall
+
+-- what the call is
+abbrev pub called : LaneCall → Call
+called (Asks method message) = call_of method message
+called Leaves = calls.Leave
 
 pub record Answer : Type 0 where
   pub code : Code
@@ -123,17 +137,52 @@ read_reply (Err code) = failed code
 abbrev pub unreadable : ℕ → Answer
 unreadable method = plain codes.InvalidArgument (if method == 5 then [] else status_bytes codes.InvalidArgument ∷ [])
 
--- by what is asked; pipelines and the stream channel are not served yet
+-- a session is made or changed as the update asks for, unless a rule refuses it
+abbrev pub arbitration_unless : Option Cause → Control → ℕ → ℕ → MasterArbitrationUpdate → Answer
+arbitration_unless (Some refused) c lane k update = plain refused.code []
+arbitration_unless None c lane k update =
+    let new = asked lane update in
+    record (plain codes.Ok []) {
+      notices = standing_notices c.device (arbitrated c.roles new) new.role (told_at_arbitration c.roles new);
+      events = events.Arbitrate (record { caller = lane; call = k; role = new.role; election_id = new.election_id }) new.config ∷ [];
+    }
+
+-- A1 to A5: the device is looked at first
+abbrev pub arbitration_answer : Control → ℕ → ℕ → MasterArbitrationUpdate → Answer
+arbitration_answer c lane k update = if update.device_id == c.device then arbitration_unless (cause c.roles lane update) c lane k update else plain codes.NotFound []
+
+-- the caller is told that its message is not served
+abbrev pub unserved_answer : ℕ → Answer
+unserved_answer lane = record (plain codes.Ok []) { notices = unserved_notice lane ∷ [] }
+
+-- A message of the stream channel. Packets of controllers are not served yet; an acknowledgement changes nothing.
+abbrev pub stream_answer : Control → ℕ → ℕ → Option StreamMessageRequest → Answer
+stream_answer c lane k None = plain codes.InvalidArgument []
+stream_answer c lane k (Some (requests.Arbitration update)) = arbitration_answer c lane k update
+stream_answer c lane k (Some (requests.Packet packet)) = unserved_answer lane
+stream_answer c lane k (Some (requests.DigestAck acknowledged)) = plain codes.Ok []
+stream_answer c lane k (Some (requests.Other other)) = unserved_answer lane
+
+-- the end of a stream: a session ends, if the lane has one
+abbrev pub leave_of : Option Session → Control → ℕ → ℕ → Answer
+leave_of None c lane k = plain codes.Ok []
+leave_of (Some session) c lane k =
+    record (plain codes.Ok []) { notices = standing_notices c.device (left c.roles lane) session.role (told_at_leave c.roles lane); events = events.Leave lane k ∷ [] }
+
+abbrev pub leave_answer : Control → ℕ → ℕ → Answer
+leave_answer c lane k = leave_of (session_in c.roles.sessions lane) c lane k
+
+-- by what is asked; pipelines are not served yet
 abbrev pub answer_to : Control → ℕ → ℕ → Call → Answer
 answer_to c lane k (calls.Write request) = write_answer c lane k request
 answer_to c lane k (calls.Read request) = read_reply (read_result c request)
 answer_to c lane k (calls.Set request) = failed codes.Unimplemented
 answer_to c lane k (calls.Get request) = failed codes.Unimplemented
-answer_to c lane k (calls.Stream message) = plain codes.Unimplemented []
+answer_to c lane k (calls.Stream message) = stream_answer c lane k message
 answer_to c lane k calls.Capabilities = plain codes.Ok (capabilities_bytes ∷ [])
 answer_to c lane k (calls.Unreadable method) = unreadable method
-answer_to c lane k calls.Leave = plain codes.Unimplemented []
+answer_to c lane k calls.Leave = leave_answer c lane k
 
 -- the answer to the k-th call of a lane
 unfoldable pub answer : Control → ℕ → ℕ → LaneCall → Answer
-answer c lane k call = answer_to c lane k (call_of call.method call.message)
+answer c lane k call = answer_to c lane k (called call)

@@ -1,13 +1,13 @@
 -- The built-in Ethernet bridge (this project's profile).
-use Rattle.std.specs.Prelude.{ℕ, pos, false, List, [], ◌∷◌, codes, Option, None}
+use Rattle.std.specs.Prelude.{ℕ, pos, false, List, [], ◌∷◌, codes, None}
 use Rattle.p4_types.specs.declared.info.Action.{Action}
 use Rattle.p4_types.specs.declared.info.Info.{Info}
 use Rattle.p4_types.specs.declared.info.MatchKind.TheVariants.{Exact}
-use Rattle.p4_types.specs.declared.info.Param.{Param}
 use Rattle.p4_types.specs.declared.info.Scope.TheVariants.{TableAndDefault}
 use Rattle.p4_types.specs.declared.info.Table.{Table}
 use Rattle.p4_types.specs.declared.p4info.Preamble.{Preamble}
 use Rattle.p4_types.specs.declared.table.DefaultAction.{DefaultAction}
+use Rattle.role_arbiter.specs.declared.sessions.Session.{Session}
 
 -- its one table, which matches the destination address of a frame
 abbrev pub bridge_table : ℕ
@@ -59,3 +59,7 @@ bridge_info = record {
 -- a frame to an address that is not in the table is dropped
 abbrev pub bridge_defaults : List DefaultAction
 bridge_defaults = (record { table = bridge_table; action = record { action = drop_action; arguments = [] } }) ∷ []
+
+-- controller 0 starts as the primary of role 0
+abbrev pub bridge_session : Session
+bridge_session = record { caller = 0; role = 0; election_id = record { high = 0; low = 1 }; config = None }

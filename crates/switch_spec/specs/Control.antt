@@ -1,5 +1,5 @@
 -- The control state of the switch, and what changes it (P4Runtime 1.3.0, "Mastership Arbitration", "Table entries").
-use Rattle.std.specs.Prelude.{◌≡◌, ℕ, ◌+◌, ◌-◌, ◌^◌, ◌≤◌, nat_lt, ◌==◌, ◌&&◌, not, Bool, true, false, if◌then◌else◌, List, [], ◌∷◌, ◌++◌, length, Option, Some, None, fold, take, find, filter, Result, Ok, Err}
+use Rattle.std.specs.Prelude.{◌≡◌, ℕ, ◌+◌, ◌-◌, ◌^◌, ◌≤◌, nat_lt, ◌==◌, ◌&&◌, not, Bool, true, false, if◌then◌else◌, List, [], ◌∷◌, ◌++◌, length, Option, Some, None, is_some, fold, take, find, filter, Result, Ok, Err}
 use Rattle.p4_types.specs.declared.code.Cause.{Cause}
 use Rattle.p4_types.specs.declared.code.Code.TheVariants as codes
 use Rattle.p4_types.specs.declared.events.Event.{Event}
@@ -8,6 +8,7 @@ use Rattle.p4_types.specs.declared.events.Origin.{Origin}
 use Rattle.p4_types.specs.declared.events.Start.{Start}
 use Rattle.p4_types.specs.declared.info.Info.{Info}
 use Rattle.p4_types.specs.declared.info.Table.{Table}
+use Rattle.p4_types.specs.declared.messages.MasterArbitrationUpdate.{MasterArbitrationUpdate}
 use Rattle.p4_types.specs.declared.messages.Uint128.{Uint128}
 use Rattle.p4_types.specs.declared.messages.Update.{Update}
 use Rattle.p4_types.specs.declared.table.ActionCall.{ActionCall}
@@ -17,7 +18,10 @@ use Rattle.p4_types.specs.declared.table.DefaultAction.{DefaultAction}
 use Rattle.p4_types.specs.declared.table.Entry.{Entry}
 use Rattle.p4_types.specs.declared.table.EntryChange.{EntryChange}
 use Rattle.p4_types.specs.declared.table.Room.{Room}
-use Rattle.switch_spec.specs.Bridge.{bridge_info, bridge_defaults}
+use Rattle.role_arbiter.specs.declared.sessions.Session.{Session}
+use Rattle.role_arbiter.specs.Arbitration.{cause, asked, arbitrated, settled, left}
+use Rattle.role_arbiter.specs.State.{RolesState, no_roles, session_in, primary_of}
+use Rattle.switch_spec.specs.Bridge.{bridge_info, bridge_defaults, bridge_session}
 use Rattle.switch_spec.specs.Entries.{slot_limit, insert_cause, absence_cause, new_entry, slots_drawn, inserted, modified, deleted}
 use Rattle.switch_spec.specs.Objects.{table_of}
 use Rattle.switch_spec.specs.UpdateRules.{resolution, unless}
@@ -38,6 +42,8 @@ pub record Control : Type 0 where
   pub cpu : ℕ
   -- how many rows the entries may take, each one
   pub rows : ℕ
+  -- the live sessions, and the roles with the greatest election ids that they received
+  pub roles : RolesState
   -- what packets run through and controllers write to, or none
   pub plane : Option Plane
   -- the sequence number that the next entry draws
@@ -50,36 +56,35 @@ pub record Control : Type 0 where
 abbrev pub bridge_plane : Plane
 bridge_plane = record { info = bridge_info; entries = []; changed = []; program = bridge_defaults }
 
--- The bridge starts with an empty table. No other program is served yet.
+-- The bridge starts with an empty table and its session. No other program is served yet.
 abbrev pub opened : Start → Control
-opened start = record { device = start.device; cpu = start.cpu; rows = start.rows; plane = if start.bridge then Some bridge_plane else None; next = 1; next_slot = 0; closed = false }
+opened start = record {
+  device = start.device;
+  cpu = start.cpu;
+  rows = start.rows;
+  roles = if start.bridge then arbitrated no_roles bridge_session else no_roles;
+  plane = if start.bridge then Some bridge_plane else None;
+  next = 1;
+  next_slot = 0;
+  closed = false;
+}
 
--- The primary of a role: with the bridge, controller 0 stays the primary of role 0, with election id 1.
-pub record Primary : Type 0 where
-  pub lane : ℕ
-  pub election_id : Uint128
-  -- the ids that it may write, if its role has a configuration
-  pub scope : Option (List ℕ)
-
-abbrev pub bridge_primary : Option Plane → ℕ → Option Primary
-bridge_primary None role = None
-bridge_primary (Some plane) role = if role == 0 then Some (record { lane = 0; election_id = record { high = 0; low = 1 }; scope = None }) else None
-
-abbrev pub primary : Control → ℕ → Option Primary
-primary c role = bridge_primary c.plane role
+-- the session of a role's primary, if it has one
+abbrev pub primary : Control → ℕ → Option Session
+primary c role = primary_of c.roles role
 
 abbrev pub same_id : Uint128 → Uint128 → Bool
 same_id a b = (a.high == b.high) && (a.low == b.low)
 
 -- an election id is that of the primary, if there is one, and not 0
-abbrev pub bears : Option Primary → Uint128 → Bool
+abbrev pub bears : Option Session → Uint128 → Bool
 bears None id = false
 bears (Some p) id = same_id p.election_id id && not (same_id id (record { high = 0; low = 0 }))
 
 -- the ids that the role's primary may write
-abbrev pub scope_in : Option Primary → Option (List ℕ)
+abbrev pub scope_in : Option Session → Option (List ℕ)
 scope_in None = None
-scope_in (Some p) = p.scope
+scope_in (Some p) = p.config
 
 abbrev pub scope_of : Control → ℕ → Option (List ℕ)
 scope_of c role = scope_in (primary c role)
@@ -150,8 +155,17 @@ changed_in (Some plane) c change = changed_unless (change_cause c plane change) 
 unfoldable pub change_applied : Control → Change → Control
 change_applied c change = changed_in c.plane c change
 
+-- the session that an arbitration makes, with a configuration or without
+abbrev pub session_by : Origin → Option (List ℕ) → Session
+session_by by config = record { caller = by.caller; role = by.role; election_id = by.election_id; config = config }
+
+abbrev pub with_roles : Control → RolesState → Control
+with_roles c roles = record c { roles = roles }
+
 -- the state after an event; one that cannot take effect leaves it
 abbrev pub apply : Control → Event → Control
+apply c (events.Arbitrate by config) = with_roles c (settled c.roles (session_by by config))
+apply c (events.Leave caller call) = with_roles c (left c.roles caller)
 apply c (events.Change by change) = change_applied c change
 apply c (events.Batch by list) = fold change_applied c list
 apply c events.Close = record c { closed = true }
@@ -184,8 +198,16 @@ abbrev pub MayChanges : Control → Origin → List Change → Type 0
 MayChanges c by [] = Unit {0}
 MayChanges c by (change ∷ list) = MayChange c by change × MayChanges (change_applied c change) by list
 
+-- a session may be made where some update asks for it that no rule refuses in this state
+pub record MayArbitrate (c : Control) (by : Origin) (config : Option (List ℕ)) : Type 0 where
+  pub update : MasterArbitrationUpdate
+  pub asks : asked by.caller update ≡ session_by by config
+  pub no_cause : cause c.roles by.caller update ≡ None
+
 -- which event may follow
 abbrev pub May : Control → Event → Type 0
+May c (events.Arbitrate by config) = (c.closed ≡ false) × MayArbitrate c by config
+May c (events.Leave caller call) = (c.closed ≡ false) × (is_some (session_in c.roles.sessions caller) ≡ true)
 May c (events.Change by change) = (c.closed ≡ false) × MayChange c by change
 May c (events.Batch by list) = (c.closed ≡ false) × (1 ≤ length list) × (length list ≤ 4096) × MayChanges c by list
 May c events.Close = c.closed ≡ false

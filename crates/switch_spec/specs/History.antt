@@ -20,6 +20,8 @@ pub record Made : Type 0 where
 
 -- the step that an event is; Close is none
 abbrev pub step_of : Event → Option Step
+step_of (events.Arbitrate by config) = Some (record { kind = kinds.Arbitrate; changes = 0 })
+step_of (events.Leave caller call) = Some (record { kind = kinds.Leave; changes = 0 })
 step_of (events.Change by change) = Some (record { kind = kinds.Change; changes = 1 })
 step_of (events.Batch by list) = Some (record { kind = kinds.Batch; changes = length list })
 step_of events.Close = None

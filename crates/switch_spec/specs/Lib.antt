@@ -3,9 +3,11 @@ pub mod Bridge
 pub mod Control
 pub mod History
 pub mod Meaning
+pub mod Notices
 pub mod Play
 pub mod Report
 pub mod ReportText
+pub mod RoleLaws
 pub mod Rows
 pub mod Status
 pub mod Tape

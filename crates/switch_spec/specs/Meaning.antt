@@ -42,7 +42,7 @@ drop_port = 511
 abbrev pub sent_to : ℕ → Control → List HitMark → List ℕ → Verdict
 sent_to port c hits packet =
     if port == drop_port then dropped 1 hits else
-    if port == c.cpu then record (dropped 0 hits) { cpu = (option_map (λ p. p.lane) (primary c 0), packet_in packet) ∷ [] }
+    if port == c.cpu then record (dropped 0 hits) { cpu = (option_map (λ p. p.caller) (primary c 0), packet_in packet) ∷ [] }
     else record (dropped 0 hits) { outputs = (port, packet) ∷ [] }
 
 -- the port is a number of 9 bits; the bridge's other action drops

@@ -3,7 +3,6 @@ use Rattle.std.specs.Prelude.{ℕ, ◌==◌, Option, find}
 use Rattle.p4_types.specs.declared.info.Action.{Action}
 use Rattle.p4_types.specs.declared.info.Info.{Info}
 use Rattle.p4_types.specs.declared.info.MatchField.{MatchField}
-use Rattle.p4_types.specs.declared.info.Param.{Param}
 use Rattle.p4_types.specs.declared.info.Table.{Table}
 
 abbrev pub table_of : ℕ → Info → Option Table

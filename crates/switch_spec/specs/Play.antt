@@ -5,9 +5,9 @@ use Rattle.p4_types.specs.declared.journal.Entry.{Entry}
 use Rattle.p4_types.specs.declared.journal.Report.{Report}
 use Rattle.p4_types.specs.declared.records.Record.{Record}
 use Rattle.p4_types.specs.declared.tape.TapeRecord.{TapeRecord}
-use Rattle.p4_types.specs.declared.tape.TapeRecord.TheVariants.{Call, Packet}
+use Rattle.p4_types.specs.declared.tape.TapeRecord.TheVariants.{Call, Packet, Leave}
 use Rattle.p4_types.specs.declared.tape.Who.TheVariants.{Worker}
-use Rattle.switch_spec.specs.Answer.{LaneCall, answer}
+use Rattle.switch_spec.specs.Answer.{LaneCall, Asks, Leaves, answer}
 use Rattle.switch_spec.specs.Control.{Control, opened, applied}
 use Rattle.switch_spec.specs.History.{answered, refused_for_memory}
 use Rattle.switch_spec.specs.Meaning.{meaning, record_of}
@@ -52,14 +52,19 @@ play_refusal p lane = record p { journal = p.journal ++ refused_for_memory p.ste
 
 -- what becomes of a record of the tape: a call is answered, or there is no memory for it, or a packet is carried
 pub data Turn : Type 0 where
-  Answers : (lane method : ℕ) (message : List ℕ) → Turn
-  Refuses : (lane method : ℕ) (message : List ℕ) → Turn
+  Answers : (lane : ℕ) (call : LaneCall) → Turn
+  Refuses : (lane : ℕ) (call : LaneCall) → Turn
   Carries : (lane port : ℕ) (packet : List ℕ) → Turn
+
+-- the record of a lane's call
+abbrev pub call_item : ℕ → LaneCall → TapeRecord
+call_item lane (Asks method message) = Call lane method message
+call_item lane Leaves = Leave lane
 
 -- the record
 abbrev pub item_of : Turn → TapeRecord
-item_of (Answers lane method message) = Call lane method message
-item_of (Refuses lane method message) = Call lane method message
+item_of (Answers lane call) = call_item lane call
+item_of (Refuses lane call) = call_item lane call
 item_of (Carries lane port packet) = Packet lane port packet
 
 -- the tape of the turns
@@ -67,8 +72,8 @@ abbrev pub items_of : List Turn → List TapeRecord
 items_of turns = map item_of turns
 
 unfoldable pub play : Played → Turn → Played
-play p (Answers lane method message) = play_call p lane (record { method = method; message = message })
-play p (Refuses lane method message) = play_refusal p lane
+play p (Answers lane call) = play_call p lane call
+play p (Refuses lane call) = play_refusal p lane
 play p (Carries lane port packet) = play_packet p lane port packet
 
 -- the run of these turns
@@ -77,7 +82,8 @@ played start turns = fold play (begun start) turns
 
 -- the turn of a record whose call is answered
 abbrev pub answering : TapeRecord → Turn
-answering (Call lane method message) = Answers lane method message
+answering (Call lane method message) = Answers lane (Asks method message)
+answering (Leave lane) = Answers lane Leaves
 answering (Packet lane port packet) = Carries lane port packet
 
 -- what the report shows of it

@@ -6,10 +6,10 @@ use Rattle.p4_types.specs.declared.events.Start.{Start}
 use Rattle.p4_types.specs.declared.journal.Report.{Report}
 use Rattle.p4_types.specs.declared.records.Record.{Record}
 use Rattle.p4_types.specs.declared.tape.TapeRecord.{TapeRecord}
-use Rattle.p4_types.specs.declared.tape.TapeRecord.TheVariants.{Call, Packet}
+use Rattle.p4_types.specs.declared.tape.TapeRecord.TheVariants.{Call, Packet, Leave}
 use Rattle.p4_types.specs.declared.tape.Who.{Who}
 use Rattle.p4_types.specs.declared.tape.Who.TheVariants.{Controller, Worker}
-use Rattle.switch_spec.specs.Answer.{LaneCall}
+use Rattle.switch_spec.specs.Answer.{LaneCall, Asks, Leaves}
 use Rattle.switch_spec.specs.Control.{opened, after, Legal}
 use Rattle.switch_spec.specs.History.{Made, History, Numbered, published, steps_of, is_refused_for_memory}
 use Rattle.switch_spec.specs.Meaning.{meaning, record_of}
@@ -26,12 +26,14 @@ pub record Carried : Type 0 where
 
 -- the calls of one controller's lane on the tape, in order
 abbrev pub call_on : ℕ → TapeRecord → Option LaneCall
-call_on lane (Call other method message) = if lane == other then Some (record { method = method; message = message }) else None
+call_on lane (Call other method message) = if lane == other then Some (Asks method message) else None
+call_on lane (Leave other) = if lane == other then Some Leaves else None
 call_on lane (Packet other port packet) = None
 
 -- the packets of one worker's lane on the tape, in order
 abbrev pub packet_on : ℕ → TapeRecord → Option Arrival
 packet_on lane (Call other method message) = None
+packet_on lane (Leave other) = None
 packet_on lane (Packet other port packet) = if lane == other then Some (port, packet) else None
 
 -- the calls that a lane made
@@ -96,7 +98,10 @@ abbrev pub Lockstep : ℕ → List TapeRecord → List Made → List Carried →
 Lockstep n [] journal records = (journal ≡ []) × (records ≡ [])
 Lockstep n (Call lane method message ∷ tape) [] records = ⊥
 Lockstep n (Call lane method message ∷ tape) (made ∷ journal) records =
-    (made.entry.lane ≡ lane) × (made.call ≡ record { method = method; message = message }) × Lockstep made.entry.reply.steps tape journal records
+    (made.entry.lane ≡ lane) × (made.call ≡ Asks method message) × Lockstep made.entry.reply.steps tape journal records
+Lockstep n (Leave lane ∷ tape) [] records = ⊥
+Lockstep n (Leave lane ∷ tape) (made ∷ journal) records =
+    (made.entry.lane ≡ lane) × (made.call ≡ Leaves) × Lockstep made.entry.reply.steps tape journal records
 Lockstep n (Packet lane port packet ∷ tape) journal [] = ⊥
 Lockstep n (Packet lane port packet ∷ tape) journal (carried ∷ records) =
     (carried.outcome.who ≡ Worker lane) × (carried.arrival ≡ (port, packet)) × (carried.outcome.steps ≡ n) × Lockstep n tape journal records

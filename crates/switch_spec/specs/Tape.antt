@@ -3,7 +3,7 @@ use Rattle.std.specs.Prelude.{◌≡◌, ℕ, ◌<◌, ◌≤◌, List, [], ◌�
 use Rattle.std.specs.List.{flat_map}
 use Rattle.std.specs.Int.{w16, w32, to_be_bytes}
 use Rattle.p4_types.specs.declared.tape.TapeRecord.{TapeRecord}
-use Rattle.p4_types.specs.declared.tape.TapeRecord.TheVariants.{Call, Packet}
+use Rattle.p4_types.specs.declared.tape.TapeRecord.TheVariants.{Call, Packet, Leave}
 
 -- a record of this kind and lane: both, the payload's length, and the payload
 abbrev pub framed : ℕ → ℕ → List ℕ → List ℕ
@@ -13,6 +13,7 @@ framed kind lane payload = kind ∷ to_be_bytes w16 lane ++ to_be_bytes w32 (len
 abbrev pub record_bytes : TapeRecord → List ℕ
 record_bytes (Call lane method message) = framed 1 lane (method ∷ message)
 record_bytes (Packet lane port packet) = framed 2 lane (to_be_bytes w16 port ++ packet)
+record_bytes (Leave lane) = framed 4 lane []
 
 -- what is true of the record of a call: one of 32 controllers' lanes, a method of P4Runtime, a message of at most 8 MiB
 pub record IsCall (lane method : ℕ) (message : List ℕ) : Type 0 where
@@ -27,10 +28,15 @@ pub record IsPacket (lane port : ℕ) (packet : List ℕ) : Type 0 where
   pub in_ports : port ≤ 510
   pub size : length packet ≤ 9216
 
+-- what is true of the record of a stream's end: one of 32 controllers' lanes
+pub record IsLeave (lane : ℕ) : Type 0 where
+  pub of_controller : lane < 32
+
 -- a record that may stand on a tape
 abbrev pub IsRecord : TapeRecord → Type 0
 IsRecord (Call lane method message) = IsCall lane method message
 IsRecord (Packet lane port packet) = IsPacket lane port packet
+IsRecord (Leave lane) = IsLeave lane
 
 -- the bytes with which each tape begins
 abbrev pub magic : List ℕ

@@ -1,7 +1,7 @@
 -- A tape read from left to right. An error says how many bytes are left from the first bad byte on; 0 says that bytes are missing.
 use Rattle.std.specs.Prelude.{ℕ, zero, suc, ◌+◌, ◌-◌, ◌*◌, ◌^◌, min, nat_lt, nat_le, ◌==◌, ◌||◌, ◌&&◌, Bool, if◌then◌else◌, List, [], ◌∷◌, length, take, drop, Option, Some, None, Result, Ok, Err}
 use Rattle.p4_types.specs.declared.tape.TapeRecord.{TapeRecord}
-use Rattle.p4_types.specs.declared.tape.TapeRecord.TheVariants.{Call, Packet}
+use Rattle.p4_types.specs.declared.tape.TapeRecord.TheVariants.{Call, Packet, Leave}
 use Rattle.wire_fields.specs.Reading.{◌>>=◌}
 use Rattle.switch_spec.specs.Tape.{magic}
 
@@ -49,6 +49,13 @@ packet_at bytes = do
   packet ← bytes_at (size.0 - 2) port.1
   Ok (Packet lane.0 port.0 packet.0, packet.1)
 
+-- what stands behind the kind of a stream's end
+unfoldable pub leave_at : List ℕ → Result (TapeRecord × List ℕ) ℕ
+leave_at bytes = do
+  lane ← number_at 2 0 31 bytes
+  size ← number_at 4 0 0 lane.1
+  Ok (Leave lane.0, size.1)
+
 -- what stands behind the kind of the end record
 unfoldable pub end_at : List ℕ → Result (List ℕ) ℕ
 end_at bytes = do
@@ -63,6 +70,7 @@ item_at (kind ∷ bytes) =
     if kind == 0 then (end_at bytes >>= λ rest. Ok (None, rest))
     else if kind == 1 then (call_at bytes >>= λ x. Ok (Some x.0, x.1))
     else if kind == 2 then (packet_at bytes >>= λ x. Ok (Some x.0, x.1))
+    else if kind == 4 then (leave_at bytes >>= λ x. Ok (Some x.0, x.1))
     else Err (length (kind ∷ bytes))
 
 -- an error of a reader as a flaw

@@ -6,7 +6,6 @@ use Rattle.p4_types.specs.declared.code.Cause.{Cause}
 use Rattle.p4_types.specs.declared.code.Code.{Code}
 use Rattle.p4_types.specs.declared.code.Code.TheVariants as codes
 use Rattle.p4_types.specs.declared.info.Action as infos
-use Rattle.p4_types.specs.declared.info.ActionRef.{ActionRef}
 use Rattle.p4_types.specs.declared.info.Info.{Info}
 use Rattle.p4_types.specs.declared.info.MatchField.{MatchField}
 use Rattle.p4_types.specs.declared.info.MatchKind.{MatchKind}

@@ -1,7 +1,8 @@
 //! Laws about the definitions. Each function's contract is the law; its body does nothing.
 ghost use Rattle.switch_spec.specs.Play.{PlayedIsReport};
 ghost use Rattle.switch_spec.specs.Report.{TapeDeterminesReport};
-ghost use Rattle.switch_spec.specs.Rows.{EmptyTape, OneEntryOnePacket, InsertTwice, TableFull, ShortPacket};
+ghost use Rattle.switch_spec.specs.RoleLaws.{RolesStaySound};
+ghost use Rattle.switch_spec.specs.Rows.{EmptyTape, OneEntryOnePacket, InsertTwice, TableFull, ShortPacket, BackupWaits};
 
 /// One pass over a tape gives a report of it, the one that follows the tape.
 pub fn played_is_report()
@@ -13,6 +14,11 @@ pub fn tape_determines_report()
     ensures law { TapeDeterminesReport }
 {}
 
+/// In each state of a run the roles are sound: a role has one primary at most.
+pub fn roles_stay_sound()
+    ensures law { RolesStaySound }
+{}
+
 /// Worked runs, with their bytes and texts.
 pub fn worked_runs()
     ensures empty_tape { EmptyTape }
@@ -20,4 +26,5 @@ pub fn worked_runs()
     ensures insert_twice { InsertTwice }
     ensures table_full { TableFull }
     ensures short_packet { ShortPacket }
+    ensures backup_waits { BackupWaits }
 {}

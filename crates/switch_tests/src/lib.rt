@@ -1,7 +1,15 @@
-//! Tests of the crates above the leaves, over their public items: outside rows, and faults of the outside.
+//! Tests of the crates above the leaves, over the whole program: outside rows, and faults of the outside.
 #![tactic(auto)]
 
 #[cfg(test)]
-mod calls;
+mod batch_rows;
 #[cfg(test)]
-mod rows;
+mod faults;
+#[cfg(test)]
+mod first_path_rows;
+#[cfg(test)]
+mod info_rows;
+#[cfg(test)]
+mod role_rows;
+#[cfg(test)]
+mod runs;

@@ -1,6 +1,6 @@
 // A tape's records from its bytes.
 ghost use Rattle.std.specs.Prelude.{◌≡◌, ◌<◌, ◌≤◌, ◌^◌, ℕ, IfOk, []};
-ghost use Rattle.switch_spec.specs.TapeReading.{number_at, bytes_at, call_at, packet_at, end_at, item_at, text_at, nothing_after, records_at, tape_at};
+ghost use Rattle.switch_spec.specs.TapeReading.{number_at, bytes_at, call_at, packet_at, leave_at, end_at, item_at, text_at, nothing_after, records_at, tape_at};
 ghost use Rattle.tape_form.specs.Parsed.{Gives, GivesAll};
 ghost use Rattle.tape_form.specs.declared.parse.ReadFault.TheVariants as faults;
 
@@ -109,6 +109,16 @@ fn packet_at(alloc: Global, bytes: &[u8]) -> Result<(TapeRecord, &[u8]), ReadFau
     Ok((record, rest))
 }
 
+/// What stands behind the kind of a stream's end.
+#[tactic(auto, unfolding(switch_spec::specs::TapeReading::leave_at))]
+fn leave_at(bytes: &[u8]) -> Result<(TapeRecord, &[u8]), ReadFault>
+    ensures { Gives (λ x. (x.0, x.1.now)) result (leave_at bytes.now) }
+{
+    let (lane, rest) = number_at(2, 0, 31, bytes)?;
+    let (_, rest) = number_at(4, 0, 0, rest)?;
+    Ok((TapeRecord::Leave { lane: lane as u16 }, rest))
+}
+
 /// What stands behind the kind of the end record.
 #[tactic(auto, unfolding(switch_spec::specs::TapeReading::end_at))]
 fn end_at(bytes: &[u8]) -> Result<&[u8], ReadFault>
@@ -137,6 +147,10 @@ fn item_at(alloc: Global, bytes: &[u8]) -> Result<(Option<TapeRecord>, &[u8]), R
         [2, rest @ ..] => {
             let (packet, rest) = packet_at(alloc, rest)?;
             Ok((Some(packet), rest))
+        }
+        [4, rest @ ..] => {
+            let (leave, rest) = leave_at(rest)?;
+            Ok((Some(leave), rest))
         }
         [_, ..] => Err(ReadFault::Bad(bytes.len())),
     }

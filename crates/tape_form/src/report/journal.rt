@@ -1,5 +1,5 @@
 // The journal's lines of a report, call by call.
-ghost use Rattle.std.specs.Prelude.{◌≡◌, ◌+◌, ◌++◌, ℕ, List, IfOk, OnOk, length, sum_by, string_bytes};
+ghost use Rattle.std.specs.Prelude.{◌≡◌, ◌<◌, ◌+◌, ◌-◌, ◌^◌, ◌++◌, ℕ, List, IfOk, OnOk, length, sum_by, string_bytes};
 ghost use Rattle.std.specs.List.{flat_map};
 ghost use Rattle.switch_spec.specs.ReportText.{notice_line, reply_line, step_line, step_lines, entry_lines, journal_lines};
 
@@ -35,7 +35,7 @@ fn push_notices(alloc: Global, out: &mut String, notices: &[Notice]) -> Result<(
 /// Adds the line of the step of this number, of the lane's call.
 fn push_step(
     out: &mut String,
-    number: u64,
+    number: u128,
     lane: u16,
     call: u32,
     step: Step,
@@ -50,21 +50,18 @@ fn push_step(
 /// Adds the lines of a call's steps, which come after so many; answers how many there are then.
 fn push_steps(
     out: &mut String,
-    before: u64,
+    before: u128,
     lane: u16,
     call: u32,
     steps: &[Step],
-) -> Result<u64, AllocError>
+) -> Result<u128, AllocError>
+    requires { before < 2 ^ 128 - 2 ^ 64 }
     ensures text { OnOk result (string_bytes out.new ≡ string_bytes out.old ++ step_lines before lane call steps.now) }
     ensures count { IfOk result (λ after. after ≡ before + length steps.now) }
 {
     let mut number = before;
     for step in steps {
-        // No memory holds more steps than a u64 counts.
-        let Some(next) = number.checked_add(1) else {
-            return Err(AllocError);
-        };
-        number = next;
+        number += 1;
         push_step(out, number, lane, call, *step)?;
     }
     Ok(number)
@@ -87,11 +84,13 @@ fn push_reply(alloc: Global, out: &mut String, entry: &Entry) -> Result<(), Allo
 fn push_entry(
     alloc: Global,
     out: &mut String,
-    before: u64,
+    before: u128,
     entry: &Entry,
-) -> Result<u64, AllocError>
+) -> Result<u128, AllocError>
+    requires { before < 2 ^ 128 - 2 ^ 64 }
     ensures text { OnOk result (string_bytes out.new ≡ string_bytes out.old ++ entry_lines before entry.now) }
     ensures count { IfOk result (λ after. after ≡ before + length entry.now.steps) }
+    ensures few { length entry.now.steps < 2 ^ 64 }
 {
     let after = push_steps(out, before, entry.lane, entry.call, entry.steps.as_slice())?;
     push_notices(alloc, out, entry.reply.notices.as_slice())?;
@@ -99,12 +98,12 @@ fn push_entry(
     Ok(after)
 }
 
-/// Adds the journal's lines; answers how many steps it has.
+/// Adds the journal's lines; answers how many steps it has. They are less than 2^64 calls of less than 2^64 steps.
 pub(crate) fn push_journal(
     alloc: Global,
     out: &mut String,
     journal: &[Entry],
-) -> Result<u64, AllocError>
+) -> Result<u128, AllocError>
     ensures text { OnOk result (string_bytes out.new ≡ string_bytes out.old ++ journal_lines 0 journal.now) }
     ensures count { IfOk result (λ steps. steps ≡ sum_by (λ entry. length entry.steps) journal.now) }
 {

@@ -74,7 +74,7 @@ pub(crate) fn push_lines<T: AsLine>(
 }
 
 /// Adds the last line, of so many steps and packets.
-pub(crate) fn push_end(out: &mut String, steps: u64, packets: usize) -> Result<(), AllocError>
+pub(crate) fn push_end(out: &mut String, steps: u128, packets: usize) -> Result<(), AllocError>
     ensures { OnOk result (string_bytes out.new ≡ string_bytes out.old ++ line (codes "end" ∷ decimal steps ∷ decimal packets ∷ [])) }
 {
     write!(out, "end {steps} {packets}\n")

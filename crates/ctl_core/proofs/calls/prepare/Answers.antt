@@ -1,13 +1,13 @@
 use Rattle.std.proofs.Common.{refl}
-use Rattle.ctl_core.specs.State.{control_of}
+use Rattle.ctl_core.specs.Whole.{control_in}
 use Rattle.ctl_core.proofs.Handling.{may_follow, few_events, is_available}
 use Rattle.ctl_core.proofs.calls.prepare.Goals as goal
 
 pub returns-clause-few : goal.returns-clause-few
-returns-clause-few c = few_events (control_of c.args.fixed.now c.args.written.now) c.args.lane c.args.number c.args.call.now _ c.in_ok-prepared.ensures.prepared.events
+returns-clause-few c = few_events (control_in c.args.state.now) c.args.lane c.args.number c.args.call.now _ c.in_ok-prepared.ensures.prepared.events
 
 pub returns-clause-available : goal.returns-clause-available
-returns-clause-available c = is_available (control_of c.args.fixed.now c.args.written.now) c.args.lane c.args.number c.args.call.now _ c.in_ok-prepared.ensures.prepared.code
+returns-clause-available c = is_available (control_in c.args.state.now) c.args.lane c.args.number c.args.call.now _ c.in_ok-prepared.ensures.prepared.code
 
 pub returns-clause-may : goal.returns-clause-may
-returns-clause-may c = may_follow (control_of c.args.fixed.now c.args.written.now) c.args.lane c.args.number c.args.call.now _ refl c.in_ok-prepared.ensures.prepared.events
+returns-clause-may c = may_follow (control_in c.args.state.now) c.args.lane c.args.number c.args.call.now _ refl c.in_ok-prepared.ensures.prepared.events

@@ -9,10 +9,10 @@ use Rattle.ctl_core.proofs.calls.write.Goals as goal
 
 pub returns-clause-leads : goal.returns-clause-leads
 returns-clause-leads c =
-    let fixed = c.args.fixed.now in
+    let s = c.args.state.now in
     let by : Origin = origin c.args.lane c.args.call c.args.request.now in
-    let P : Prepared → Type 0 = λ p. Leads fixed (control_of fixed c.args.written.now) p.events p.written in
-    let after = c.in_ok-outcomes.ensures.after ∙ ap (λ d. fold state_after (control_of fixed d) c.in_ok-outcomes.outcomes) c.in_ok-draft.ensures in
+    let P : Prepared → Type 0 = λ p. Leads s p.events p.draft in
+    let after = c.in_ok-outcomes.ensures.after ∙ ap (λ d. fold state_after (control_of s.fixed d s.roles) c.in_ok-outcomes.outcomes) c.in_ok-draft.ensures in
     subst P (sym c.with_draft.ensures)
-    (write_leads c.is_atomic-atomic.result by c.in_ok-outcomes.outcomes fixed (control_of fixed c.args.written.now) c.updates.new.self c.in_ok-answer.answer.events
+    (write_leads c.is_atomic-atomic.result by c.in_ok-outcomes.outcomes s c.updates.new.self c.in_ok-answer.answer.events
     c.in_ok-answer.ensures.events after)

@@ -1,4 +1,4 @@
-use Rattle.std.proofs.Common.{◌≡◌, ◌++◌, filter, nat_lt}
+use Rattle.std.proofs.Common.{◌≡◌, filter, nat_lt}
 use Rattle.ctl_core.proofs.written.parted.Given as goal
 
 abbrev pub invariant-loop-default : goal.invariant-loop-default

@@ -1,4 +1,4 @@
-use Rattle.switch_spec.proofs.WorkedRows.{empty_tape, one_entry_one_packet, insert_twice, table_full, short_packet}
+use Rattle.switch_spec.proofs.WorkedRows.{empty_tape, one_entry_one_packet, insert_twice, table_full, short_packet, backup_waits}
 use Rattle.switch_spec.proofs.laws.worked_runs.Goals as goal
 
 pub returns : goal.returns
@@ -8,4 +8,5 @@ returns c = record {
   insert_twice = insert_twice;
   table_full = table_full;
   short_packet = short_packet;
+  backup_waits = backup_waits;
 }

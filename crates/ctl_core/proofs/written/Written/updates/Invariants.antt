@@ -5,5 +5,5 @@ use Rattle.ctl_core.proofs.written.Written.updates.Given as goal
 
 abbrev pub invariant-loop-update : goal.invariant-loop-update
 invariant-loop-update l =
-    (l.list ++ outcomes (control_of l.fixed l.self) l.role (drop l.update-index l.updates) ≡ outcomes (control_of l.fixed l.initial.self) l.role l.updates)
-    × (control_of l.fixed l.self ≡ fold state_after (control_of l.fixed l.initial.self) l.list)
+    (l.list ++ outcomes (control_of l.fixed l.self l.roles) l.role (drop l.update-index l.updates) ≡ outcomes (control_of l.fixed l.initial.self l.roles) l.role l.updates)
+    × (control_of l.fixed l.self l.roles ≡ fold state_after (control_of l.fixed l.initial.self l.roles) l.list)

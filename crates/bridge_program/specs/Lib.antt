@@ -1,0 +1,2 @@
+pub mod BridgeInfo
+pub mod Spelled

@@ -1,8 +1,0 @@
-use Rattle.ctl_core.proofs.BridgeLemmas.{no_fault, is_bridge}
-use Rattle.ctl_core.proofs.bridge.info.Goals as goal
-
-pub unreachable-requires : goal.unreachable-requires
-unreachable-requires c = no_fault _ _ c.in-Err-Fault.field-0-0 c.in_ok-message.ensures c.in-Err-Fault.field-0-is c.in-Err-Fault.ensures
-
-pub returns-in-Ok : goal.returns-in-Ok
-returns-in-Ok c = is_bridge _ _ c.in_ok-message.ensures c.in-Ok.ensures.1

@@ -1,0 +1,6 @@
+pub mod Places
+pub mod SameData
+pub mod EachOnce
+pub mod PassedOver
+pub mod Soundness
+pub mod Counting

@@ -1,0 +1,5 @@
+pub mod Data
+pub mod State
+pub mod Sending
+pub mod Fold
+pub mod Laws

@@ -1,0 +1,12 @@
+pub mod Code
+pub mod Rows
+pub mod Tables
+pub mod Reading
+pub mod Integers
+pub mod Strings
+pub mod Windows
+pub mod Blocks
+pub mod Writing
+pub mod Huffman
+pub mod Headers
+pub mod Laws

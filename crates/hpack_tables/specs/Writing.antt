@@ -1,0 +1,23 @@
+-- Headers as literals without indexing, each name written out and no Huffman code (RFC 7541, sections 5.1, 5.2 and 6.2.2).
+use Rattle.std.specs.Prelude.{ℕ, zero, suc, ◌+◌, ◌-◌, ◌/◌, ◌%◌, nat_lt, if◌then◌else◌, List, [], ◌∷◌, ◌++◌, length}
+use Rattle.std.specs.List.{flat_map}
+use Rattle.hpack_tables.specs.declared.header.Header.{Header}
+
+-- the bytes that an integer goes on with, as few as can be, and at most so many
+unfoldable pub digits : ℕ → ℕ → List ℕ
+digits zero value = []
+digits (suc more) value = if nat_lt value 128 then value ∷ [] else (value % 128 + 128) ∷ digits more (value / 128)
+
+-- a length, with a prefix of seven bits
+abbrev pub length_bytes : ℕ → List ℕ
+length_bytes size = if nat_lt size 127 then size ∷ [] else 127 ∷ digits 10 (size - 127)
+
+abbrev pub string_bytes : List ℕ → List ℕ
+string_bytes string = length_bytes (length string) ++ string
+
+abbrev pub header_bytes : Header → List ℕ
+header_bytes header = 0 ∷ string_bytes header.name ++ string_bytes header.value
+
+-- a block of these headers
+abbrev pub block_bytes : List Header → List ℕ
+block_bytes headers = flat_map header_bytes headers

@@ -1,0 +1,65 @@
+//! A decoder of header blocks.
+ghost use Rattle.std.specs.Prelude.{◌≡◌, [], None, IfOk};
+ghost use Rattle.hpack_tables.specs.Blocks.{IsAnswer};
+
+use crate::fault::BlockError;
+use crate::header::Header;
+use crate::reading::block;
+use crate::table::DynamicTable;
+use p4_types::code::NoMemory;
+use p4_types::list::List;
+use std::alloc::Global;
+use std::marker::Model;
+
+/// Reads the header blocks of a connection, one after another, with the dynamic table that they
+/// share. A contract sees the table, and why the decoder reads no more, if it does not.
+#[derive(Drop)]
+pub struct Decoder {
+    alloc: Global,
+    table: DynamicTable,
+    broken: Option<BlockError>,
+}
+
+impl Model for Decoder {
+    ghost use Rattle.hpack_tables.specs.Blocks.{DecoderState};
+
+    ghost Value = { DecoderState };
+
+    ghost view = { λ decoder. record { table = decoder.table; broken = decoder.broken } };
+}
+
+impl Decoder {
+    /// A decoder with an empty table of at most 4,096 bytes. It takes no memory.
+    pub fn new(alloc: Global) -> Decoder
+        ensures { result ≡ record { table = record { entries = []; max_size = 4096 }; broken = None } }
+    {
+        Decoder {
+            alloc,
+            table: DynamicTable::new(alloc),
+            broken: None,
+        }
+    }
+
+    /// The headers of a whole block, or the first fault in its order. What was read before a fault
+    /// is lost, so a fault is answered again to each later block, and so is want of memory.
+    pub fn block(&mut self, bytes: &[u8]) -> Result<List<Header>, BlockError>
+        ensures { IsAnswer self.old.broken self.old self.new bytes.now result }
+    {
+        if let Some(error) = self.broken {
+            return Err(error);
+        }
+        let read = block(self.alloc, &mut self.table, bytes);
+        if let Err(error) = &read {
+            self.broken = Some(*error);
+        }
+        read
+    }
+
+    /// The entries of the dynamic table, the newest first. After a fault they are what was read
+    /// before it.
+    pub fn entries(&self) -> Result<List<Header>, NoMemory>
+        ensures { IfOk result (λ entries. entries ≡ self.now.table.entries) }
+    {
+        self.table.copies(self.alloc)
+    }
+}
