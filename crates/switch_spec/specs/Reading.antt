@@ -1,5 +1,5 @@
 -- What a Read selects, and how it is answered (P4Runtime 1.3.0, "Read RPC"; order and size of the messages: this project's profile).
-use Rattle.std.specs.Prelude.{ℕ, zero, suc, ℤ, pos, ◌==◌, ◌&&◌, ◌||◌, not, nat_lt, nat_le, Bool, true, false, if◌then◌else◌, List, [], ◌∷◌, map, filter, fold, take, drop, length, Option, Some, None, option_map, Result, Ok, Err}
+use Rattle.std.specs.Prelude.{ℕ, zero, suc, ◌-◌, ◌^◌, min, ℤ, pos, ◌==◌, ◌&&◌, ◌||◌, not, nat_lt, nat_le, Bool, true, false, if◌then◌else◌, List, [], ◌∷◌, map, filter, fold, take, drop, length, Option, Some, None, option_map, Result, Ok, Err}
 use Rattle.std.specs.List.{filter_map, flat_map, zip}
 use Rattle.std.specs.Ordering.{int_eq}
 use Rattle.p4_types.specs.declared.code.Code.{Code}
@@ -70,11 +70,15 @@ placed key x (y ∷ ys) = if nat_lt (key x) (key y) then x ∷ y ∷ ys else y �
 abbrev pub by_rising : {A : Type 0} → (A → ℕ) → List A → List A
 by_rising key items = fold (λ sorted x. placed key x sorted) [] items
 
+-- the length of a prefix as a number of its type (int32); those of fields are far below its greatest
+abbrev pub prefix_number : ℕ → ℤ
+prefix_number length = pos (min length (2 ^ 31 - 1))
+
 -- a test as it is answered, in canonical form; a field that is left out is not
 abbrev pub shown_kind : MatchField → FieldTest → Option FieldMatchKind
 shown_kind field tests.Any = None
 shown_kind field (tests.Equal value) = Some (if is_optional field.kind then given.Optional (canon value) else given.Exact (canon value))
-shown_kind field (tests.Prefix value length width) = Some (given.Lpm (canon value) (pos length))
+shown_kind field (tests.Prefix value length width) = Some (given.Lpm (canon value) (prefix_number length))
 shown_kind field (tests.Masked value mask) = Some (given.Ternary (canon value) (canon mask))
 shown_kind field (tests.Between low high) = Some (given.Range (canon low) (canon high))
 

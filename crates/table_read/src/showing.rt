@@ -31,10 +31,7 @@ fn shown_kind(
             }
         }
         FieldTest::Prefix { value, length, .. } => {
-            // No prefix is longer than the 128 bits that a field may have.
-            let Ok(prefix_len) = i32::try_from(length) else {
-                return Err(NoMemory);
-            };
+            let prefix_len = length.min(i32::MAX as u32) as i32;
             let value = write(alloc, value)?;
             FieldMatchKind::Lpm { value, prefix_len }
         }
