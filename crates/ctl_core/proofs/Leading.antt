@@ -7,8 +7,8 @@ use Rattle.p4_types.specs.declared.events.Event.{Event}
 use Rattle.p4_types.specs.declared.events.Event.TheVariants as events
 use Rattle.p4_types.specs.declared.events.Origin.{Origin}
 use Rattle.p4_types.specs.declared.table.Change.{Change}
-use Rattle.ctl_core.specs.declared.state.Draft.TheVariants as drafts
-use Rattle.ctl_core.specs.declared.state.State.{State}
+use Rattle.ctl_core.specs.declared.prepared.Draft.TheVariants as drafts
+use Rattle.control_state.specs.declared.state.State.{State}
 use Rattle.p4_types.specs.declared.messages.MasterArbitrationUpdate.{MasterArbitrationUpdate}
 use Rattle.role_arbiter.specs.Arbitration.{cause, asked, arbitrated, settled, left}
 use Rattle.role_arbiter.specs.State.{RolesState}
@@ -16,8 +16,8 @@ use Rattle.role_arbiter.proofs.Settling.{takes_effect}
 use Rattle.switch_spec.specs.Answer.{state_after, has_failed, batch, continued, all_or_nothing}
 use Rattle.switch_spec.specs.Control.{Control, change_applied, applied, session_by, with_roles}
 use Rattle.ctl_core.specs.Prepared.{Leads, draft_unless}
-use Rattle.ctl_core.specs.State.{Written, control_of}
-use Rattle.ctl_core.specs.Whole.{control_in}
+use Rattle.control_state.specs.State.{Written, control_of}
+use Rattle.control_state.specs.Whole.{control_in}
 
 -- the changes of the outcomes, in turn
 changes_applied : (list : List (Result Change Cause)) (c : Control) → fold state_after c list ≡ fold change_applied c (filter_map result_ok list)

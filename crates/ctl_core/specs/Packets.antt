@@ -9,10 +9,10 @@ use Rattle.switch_spec.specs.Control.{default_of}
 use Rattle.switch_spec.specs.Entries.{best}
 use Rattle.switch_spec.specs.Meaning as meaning
 use Rattle.switch_spec.specs.Meaning.{dropped, drop_port, key_of, packet_in}
-use Rattle.ctl_core.specs.declared.fixed.Program.{Program}
+use Rattle.control_state.specs.declared.fixed.Program.{Program}
 use Rattle.ctl_core.specs.declared.packets.Cpu.{Cpu}
 use Rattle.ctl_core.specs.declared.packets.Verdict.{Verdict}
-use Rattle.ctl_core.specs.State.{Written}
+use Rattle.control_state.specs.State.{Written}
 
 -- a verdict without a digest
 abbrev pub verdict_of : Verdict → meaning.Verdict

@@ -4,11 +4,11 @@ use Rattle.p4_types.specs.declared.events.Event.{Event}
 use Rattle.switch_spec.specs.Answer.{Answer}
 use Rattle.switch_spec.specs.Control.{applied}
 use Rattle.ctl_core.specs.declared.prepared.Prepared.{Prepared}
-use Rattle.ctl_core.specs.declared.state.Draft.{Draft}
-use Rattle.ctl_core.specs.declared.state.Draft.TheVariants as drafts
-use Rattle.ctl_core.specs.declared.state.State.{State}
-use Rattle.ctl_core.specs.State.{Written, control_of}
-use Rattle.ctl_core.specs.Whole.{control_in}
+use Rattle.ctl_core.specs.declared.prepared.Draft.{Draft}
+use Rattle.ctl_core.specs.declared.prepared.Draft.TheVariants as drafts
+use Rattle.control_state.specs.declared.state.State.{State}
+use Rattle.control_state.specs.State.{Written, control_of}
+use Rattle.control_state.specs.Whole.{control_in}
 
 -- it is this answer, without a packet
 pub record IsPrepared (a : Answer) (p : Prepared) : Type 0 where

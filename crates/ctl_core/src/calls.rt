@@ -6,12 +6,11 @@ ghost use Rattle.switch_spec.specs.Control.{same_id, primary, bears, Legal};
 ghost use Rattle.switch_spec.specs.History.{is_unavailable};
 ghost use Rattle.switch_spec.specs.Reading.{read_result};
 ghost use Rattle.ctl_core.specs.Prepared.{IsPrepared, ChangesNothing, Leads, draft_unless};
-ghost use Rattle.ctl_core.specs.Whole.{control_in};
+ghost use Rattle.control_state.specs.Whole.{control_in};
 
-use crate::prepared::Prepared;
-use crate::state::{Draft, State};
-use crate::written::Written;
+use crate::prepared::{Draft, Prepared};
 use crate::{messages, stream, writes};
+use control_state::{State, Written};
 use p4_types::calls::Call;
 use p4_types::code::{Code, NoMemory};
 use p4_types::events::Origin;

@@ -6,19 +6,17 @@ ghost use Rattle.switch_spec.specs.Answer.{answer_to};
 ghost use Rattle.switch_spec.specs.Control.{opened, applied, Legal};
 ghost use Rattle.switch_spec.specs.History.{is_unavailable};
 ghost use Rattle.ctl_core.specs.Prepared.{Leads, answer_of};
-ghost use Rattle.ctl_core.specs.State.{program_of};
-ghost use Rattle.ctl_core.specs.Whole.{control_in};
+ghost use Rattle.control_state.specs.State.{program_of};
+ghost use Rattle.control_state.specs.Whole.{control_in};
 ghost use Rattle.switch_spec.specs.Meaning.{meaning};
 ghost use Rattle.ctl_core.specs.Core.{Handled, replied, without_memory};
 ghost use Rattle.ctl_core.specs.Packets.{verdict_of};
 
-use crate::fixed::{Fixed, Program};
 use crate::packets::Verdict;
-use crate::prepared::Prepared;
+use crate::prepared::{Draft, Prepared};
 use crate::press::Press;
-use crate::state::{Draft, State};
-use crate::written::Written;
 use crate::{calls, packets};
+use control_state::{Fixed, Program, State, Written};
 use p4_types::calls::{Call, Reply};
 use p4_types::code::{Code, NoMemory};
 use p4_types::events::Start;
@@ -39,7 +37,7 @@ pub struct Control {
 
 impl Model for Control {
     ghost use Rattle.ctl_core.specs.Core.{Core};
-    ghost use Rattle.ctl_core.specs.Whole.{control_in};
+    ghost use Rattle.control_state.specs.Whole.{control_in};
 
     ghost Value = { Core };
 

@@ -3,15 +3,12 @@
 
 mod calls;
 mod control;
-mod fixed;
 mod messages;
 mod packets;
 mod prepared;
 mod press;
-mod state;
 mod stream;
 mod writes;
-mod written;
 
 pub use control::Control;
 pub use packets::Verdict;

@@ -5,11 +5,9 @@ ghost use Rattle.switch_spec.specs.Control.{default_in, default_of};
 ghost use Rattle.switch_spec.specs.Meaning.{key_of, packet_in, meaning, dropped};
 ghost use Rattle.switch_spec.specs.Bridge.{bridge_table};
 ghost use Rattle.ctl_core.specs.Packets.{verdict_of, sent_by, acted_by, forwarded_by};
-ghost use Rattle.ctl_core.specs.Whole.{control_in};
+ghost use Rattle.control_state.specs.Whole.{control_in};
 
-use crate::fixed::Program;
-use crate::state::State;
-use crate::written::Written;
+use control_state::{Program, State, Written};
 use p4_types::code::NoMemory;
 use p4_types::list::{ByteList, List};
 use p4_types::messages::PacketIn;

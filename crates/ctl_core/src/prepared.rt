@@ -1,9 +1,10 @@
 //! An answer before it takes effect.
-use crate::state::Draft;
+use control_state::Written;
 use p4_types::calls::Notice;
 use p4_types::code::Code;
 use p4_types::events::Event;
 use p4_types::list::{ByteList, List};
+use role_arbiter::Roles;
 
 /// A reply's code, messages and notices, the events of its call, and what they change.
 #[derive(Drop)]
@@ -13,4 +14,12 @@ pub(crate) struct Prepared {
     pub(crate) notices: List<Notice>,
     pub(crate) events: List<Event>,
     pub(crate) draft: Draft,
+}
+
+/// What a call changes once it takes effect.
+#[derive(Drop)]
+pub(crate) enum Draft {
+    Nothing,
+    Written(Written),
+    Roles(Roles),
 }

@@ -3,11 +3,11 @@ ghost use Rattle.std.specs.Prelude.{◌≡◌, ◌∷◌, [], codes, IfOk};
 ghost use Rattle.switch_spec.specs.Answer.{plain, arbitration_answer, unserved_answer, stream_answer, leave_answer};
 ghost use Rattle.switch_spec.specs.Notices.{role_told, standing, standing_notice, standing_notices, unserved, unserved_notice};
 ghost use Rattle.ctl_core.specs.Prepared.{IsPrepared, ChangesNothing, Leads};
-ghost use Rattle.ctl_core.specs.Whole.{control_in};
+ghost use Rattle.control_state.specs.Whole.{control_in};
 
 use crate::calls::bare;
-use crate::prepared::Prepared;
-use crate::state::{Draft, State};
+use crate::prepared::{Draft, Prepared};
+use control_state::State;
 use p4_types::calls::Notice;
 use p4_types::code::{Code, NoMemory};
 use p4_types::events::{Event, Origin};

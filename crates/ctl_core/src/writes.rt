@@ -7,8 +7,7 @@ ghost use Rattle.switch_spec.specs.Answer.{is_atomicity, is_atomic, has_failed, 
 ghost use Rattle.ctl_core.specs.Prepared.{IsPrepared};
 
 use crate::messages;
-use crate::prepared::Prepared;
-use crate::state::Draft;
+use crate::prepared::{Draft, Prepared};
 use p4_types::code::{Cause, Code, NoMemory};
 use p4_types::events::{Event, Origin};
 use p4_types::list::{ByteList, List};

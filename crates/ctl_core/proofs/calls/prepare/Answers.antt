@@ -1,5 +1,5 @@
 use Rattle.std.proofs.Common.{refl}
-use Rattle.ctl_core.specs.Whole.{control_in}
+use Rattle.control_state.specs.Whole.{control_in}
 use Rattle.ctl_core.proofs.Handling.{may_follow, few_events, is_available}
 use Rattle.ctl_core.proofs.calls.prepare.Goals as goal
 

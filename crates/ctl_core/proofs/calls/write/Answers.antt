@@ -3,7 +3,7 @@ use Rattle.p4_types.specs.declared.events.Origin.{Origin}
 use Rattle.ctl_core.specs.declared.prepared.Prepared.{Prepared}
 use Rattle.switch_spec.specs.Answer.{state_after, origin}
 use Rattle.ctl_core.specs.Prepared.{Leads}
-use Rattle.ctl_core.specs.State.{control_of}
+use Rattle.control_state.specs.State.{control_of}
 use Rattle.ctl_core.proofs.Leading.{write_leads}
 use Rattle.ctl_core.proofs.calls.write.Goals as goal
 

@@ -6,9 +6,9 @@ use Rattle.role_arbiter.specs.Telling.{told_at_arbitration}
 use Rattle.switch_spec.specs.Answer.{Answer}
 use Rattle.p4_types.specs.declared.code.Code.TheVariants as codes
 use Rattle.ctl_core.specs.declared.prepared.Prepared.{Prepared}
-use Rattle.ctl_core.specs.declared.state.Draft.TheVariants as drafts
+use Rattle.ctl_core.specs.declared.prepared.Draft.TheVariants as drafts
 use Rattle.ctl_core.specs.Prepared.{IsPrepared, Leads}
-use Rattle.ctl_core.specs.Whole.{control_in}
+use Rattle.control_state.specs.Whole.{control_in}
 use Rattle.ctl_core.proofs.Arbitrating.{not_refused, told, handed, asks_for}
 use Rattle.ctl_core.proofs.Leading.{arbitration_leads}
 use Rattle.ctl_core.proofs.stream.arbitration.Goals as goal

@@ -7,9 +7,9 @@ use Rattle.role_arbiter.specs.State.{session_in}
 use Rattle.switch_spec.specs.Answer.{leave_of}
 use Rattle.switch_spec.specs.Notices.{standing_notices}
 use Rattle.ctl_core.specs.declared.prepared.Prepared.{Prepared}
-use Rattle.ctl_core.specs.declared.state.Draft.TheVariants as drafts
+use Rattle.ctl_core.specs.declared.prepared.Draft.TheVariants as drafts
 use Rattle.ctl_core.specs.Prepared.{IsPrepared}
-use Rattle.ctl_core.specs.Whole.{control_in}
+use Rattle.control_state.specs.Whole.{control_in}
 use Rattle.ctl_core.proofs.stream.leave.Goals as goal
 
 pub returns-clause-prepared : goal.returns-clause-prepared

@@ -1,7 +1,7 @@
 use Rattle.std.proofs.Common.{arith, ap, ◌∙◌, sym}
-use Rattle.ctl_core.specs.State.{Written, room_in}
-use Rattle.ctl_core.proofs.Numbering.{left_after, kept_after}
-use Rattle.ctl_core.proofs.written.Written.insert.Goals as goal
+use Rattle.control_state.specs.State.{Written, room_in}
+use Rattle.control_state.proofs.Numbering.{left_after, kept_after}
+use Rattle.control_state.proofs.written.Written.insert.Goals as goal
 
 pub overflow_add-self : goal.overflow_add-self
 overflow_add-self c =

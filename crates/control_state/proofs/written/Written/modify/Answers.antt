@@ -1,6 +1,6 @@
-use Rattle.ctl_core.specs.State.{Written}
-use Rattle.ctl_core.proofs.Numbering.{modify_kept}
-use Rattle.ctl_core.proofs.written.Written.modify.Goals as goal
+use Rattle.control_state.specs.State.{Written}
+use Rattle.control_state.proofs.Numbering.{modify_kept}
+use Rattle.control_state.proofs.written.Written.modify.Goals as goal
 
 pub invariant_of-self-2 : goal.invariant_of-self-2
 invariant_of-self-2 c =

@@ -9,8 +9,8 @@ use Rattle.p4_types.specs.declared.table.EntryChange.{EntryChange}
 use Rattle.p4_types.specs.declared.table.Room.{Room}
 use Rattle.p4_types.specs.declared.info.Table.{Table}
 use Rattle.switch_spec.specs.Entries.{new_entry, inserted, slots_drawn}
-use Rattle.ctl_core.specs.declared.fixed.Fixed.{Fixed}
-use Rattle.ctl_core.specs.declared.fixed.Program.{Program}
+use Rattle.control_state.specs.declared.fixed.Fixed.{Fixed}
+use Rattle.control_state.specs.declared.fixed.Program.{Program}
 use Rattle.p4_types.specs.declared.events.Start.{Start}
 use Rattle.switch_spec.specs.Bridge.{bridge_info, bridge_defaults}
 use Rattle.role_arbiter.specs.State.{RolesState}

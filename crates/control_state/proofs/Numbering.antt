@@ -9,7 +9,7 @@ use Rattle.p4_types.specs.declared.table.EntryChange.{EntryChange}
 use Rattle.p4_types.specs.declared.table.EntryName.{EntryName}
 use Rattle.p4_types.specs.declared.table.Room.{Room}
 use Rattle.switch_spec.specs.Entries.{is_full, table_size, entry_named, is_counted, slots_drawn, insert_cause, new_entry, next_number, inserted, modified, deleted, with_change, same_name}
-use Rattle.ctl_core.specs.State.{Written, IsNumbered, room_in, with_insert}
+use Rattle.control_state.specs.State.{Written, IsNumbered, room_in, with_insert}
 
 -- a number is left, and a slot where one is drawn
 pub record HasLeft (w : Written) (table : Table) : Type 0 where

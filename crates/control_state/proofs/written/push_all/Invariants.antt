@@ -1,5 +1,5 @@
 use Rattle.std.proofs.Common.{◌≡◌, ◌++◌}
-use Rattle.ctl_core.proofs.written.push_all.Given as goal
+use Rattle.control_state.proofs.written.push_all.Given as goal
 
 abbrev pub invariant-loop-default : goal.invariant-loop-default
 invariant-loop-default l = l.list ≡ l.initial.list ++ l.yielded

@@ -6,7 +6,7 @@ ghost use Rattle.switch_spec.specs.Entries.{best, insert_cause, absence_cause, m
 ghost use Rattle.switch_spec.specs.Answer.{state_after, outcomes};
 ghost use Rattle.std.specs.Option.{option_map};
 ghost use Rattle.table_store.specs.Answers.{Refuses};
-ghost use Rattle.ctl_core.specs.State.{control_of, plane_of, read_by, room_in, with_insert, IsRefusal};
+ghost use Rattle.control_state.specs.State.{control_of, plane_of, read_by, room_in, with_insert, IsRefusal};
 
 use crate::fixed::{Fixed, Program};
 use p4_types::code::{Cause, Code, NoMemory};
@@ -25,7 +25,7 @@ use write_rules::{ResolveError, resolve};
 const SLOTS: u32 = 1_048_576;
 
 #[derive(Drop)]
-pub(crate) struct Written {
+pub struct Written {
     store: TableStore,
     changed: List<DefaultAction>,
     next: u64,
@@ -33,7 +33,7 @@ pub(crate) struct Written {
 }
 
 impl Model for Written {
-    ghost use Rattle.ctl_core.specs.State.{Written, IsNumbered};
+    ghost use Rattle.control_state.specs.State.{Written, IsNumbered};
 
     ghost Value = { Written };
 
@@ -134,11 +134,8 @@ fn copy_given(alloc: Global, action: &Option<ActionCall>) -> Result<Option<Actio
     }
 }
 
-/// A copy of default actions.
-pub(crate) fn copy_defaults(
-    alloc: Global,
-    defaults: &[DefaultAction],
-) -> Result<List<DefaultAction>, NoMemory>
+// A copy of default actions.
+fn copy_defaults(alloc: Global, defaults: &[DefaultAction]) -> Result<List<DefaultAction>, NoMemory>
     ensures { IfOk result (λ copy. copy ≡ defaults.now) }
 {
     let mut copy = List::new(alloc);
@@ -177,7 +174,7 @@ fn slots_drawn(table: &Table) -> u32
 
 impl Written {
     /// Nothing written: no entries, no changed default actions.
-    pub(crate) fn open(alloc: Global) -> Written
+    pub fn open(alloc: Global) -> Written
         ensures { result ≡ record { entries = []; changed = []; next = 1; next_slot = 0 } }
     {
         Written {
@@ -188,7 +185,7 @@ impl Written {
         }
     }
 
-    pub(crate) fn duplicate(&self, alloc: Global) -> Result<Written, NoMemory>
+    pub fn duplicate(&self, alloc: Global) -> Result<Written, NoMemory>
         ensures { IfOk result (λ copy. copy ≡ self.now) }
     {
         Ok(Written {
@@ -200,21 +197,21 @@ impl Written {
     }
 
     /// The entry of a table that a key takes.
-    pub(crate) fn best(&self, table: u32, key: &[u128]) -> Option<&Entry>
+    pub fn best(&self, table: u32, key: &[u128]) -> Option<&Entry>
         ensures { option_map (λ entry. entry.now) result ≡ best table key.now self.now.entries }
     {
         self.store.best(table, key)
     }
 
     /// The default actions that were changed.
-    pub(crate) fn changed(&self) -> &[DefaultAction]
+    pub fn changed(&self) -> &[DefaultAction]
         ensures { result.now ≡ self.now.changed }
     {
         self.changed.as_slice()
     }
 
     /// What a Read of these entities answers: its messages, or the code of the first that is refused.
-    pub(crate) fn read(
+    pub fn read(
         &self,
         alloc: Global,
         program: &Program,
@@ -363,7 +360,7 @@ impl Written {
     }
 
     /// Makes what each update of a list changes, in the state that the earlier ones left.
-    pub(crate) fn updates(
+    pub fn updates(
         &mut self,
         alloc: Global,
         fixed: &Fixed,

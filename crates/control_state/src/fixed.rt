@@ -5,16 +5,16 @@ use p4info_model::P4Info;
 
 /// A program: its objects, and its own default actions.
 #[derive(Drop)]
-pub(crate) struct Program {
-    pub(crate) info: P4Info,
-    pub(crate) defaults: List<DefaultAction>,
+pub struct Program {
+    pub info: P4Info,
+    pub defaults: List<DefaultAction>,
 }
 
 /// What writes leave: the device, the CPU port, how many rows there are, and the program.
 #[derive(Drop)]
-pub(crate) struct Fixed {
-    pub(crate) device: u64,
-    pub(crate) cpu: u16,
-    pub(crate) rows: u32,
-    pub(crate) program: Option<Program>,
+pub struct Fixed {
+    pub device: u64,
+    pub cpu: u16,
+    pub rows: u32,
+    pub program: Option<Program>,
 }

@@ -1,7 +1,7 @@
 use Rattle.std.proofs.Common.{◌≡◌, ◌++◌, drop, fold}
 use Rattle.switch_spec.specs.Answer.{outcomes, state_after}
-use Rattle.ctl_core.specs.State.{control_of}
-use Rattle.ctl_core.proofs.written.Written.updates.Given as goal
+use Rattle.control_state.specs.State.{control_of}
+use Rattle.control_state.proofs.written.Written.updates.Given as goal
 
 abbrev pub invariant-loop-update : goal.invariant-loop-update
 invariant-loop-update l =
