@@ -1,0 +1,157 @@
+-- Forms of a program that are left out (this project's profile of the BMv2 JSON form).
+use Rattle.std.specs.Prelude.{ℕ, ◌+◌, ◌%◌, ◌==◌, Bool, true, false, ◌&&◌, ◌||◌, not, List, Option, Some, None, fold}
+use Rattle.std.specs.List.{list_any, find}
+use Rattle.std.specs.Str.{bytes_eq}
+use Rattle.bm_values.specs.declared.raw.Part.{Part}
+use Rattle.bm_values.specs.declared.raw.Part.TheVariants as parts
+use Rattle.bm_records.specs.declared.raw.TypeField.{TypeField}
+use Rattle.bm_records.specs.declared.raw.HeaderType.{HeaderType}
+use Rattle.bm_records.specs.declared.raw.Header.{Header}
+use Rattle.bm_values.specs.declared.raw.Term.{Term}
+use Rattle.bm_values.specs.declared.raw.Term.TheVariants as terms
+use Rattle.bm_values.specs.declared.raw.Expression.{Expression}
+use Rattle.bm_records.specs.declared.raw.LearnListName.{LearnListName}
+use Rattle.bm_records.specs.declared.raw.LearnListName.TheVariants as names
+use Rattle.bm_records.specs.declared.raw.Primitive.{Primitive}
+use Rattle.bm_records.specs.declared.raw.Primitive.TheVariants as primitives
+use Rattle.bm_records.specs.declared.raw.Action.{Action}
+use Rattle.bm_records.specs.declared.raw.ParserOp.{ParserOp}
+use Rattle.bm_records.specs.declared.raw.ParserOp.TheVariants as parser_ops
+use Rattle.bm_records.specs.declared.raw.MatchValue.{MatchValue}
+use Rattle.bm_records.specs.declared.raw.MatchValue.TheVariants as matches
+use Rattle.bm_records.specs.declared.raw.Transition.{Transition}
+use Rattle.bm_records.specs.declared.raw.ParseState.{ParseState}
+use Rattle.bm_records.specs.declared.raw.CalculationInput.{CalculationInput}
+use Rattle.bm_records.specs.declared.raw.CalculationInput.TheVariants as inputs
+use Rattle.bm_records.specs.declared.raw.Calculation.{Calculation}
+use Rattle.bm_records.specs.declared.raw.Checksum.{Checksum}
+use Rattle.bm_records.specs.declared.raw.LearnList.{LearnList}
+use Rattle.bm_records.specs.declared.raw.DefaultEntry.{DefaultEntry}
+use Rattle.bm_records.specs.declared.raw.Table.{Table}
+use Rattle.bm_records.specs.declared.raw.Selector.{Selector}
+use Rattle.bm_records.specs.declared.raw.Pipeline.{Pipeline}
+use Rattle.bm_records.specs.declared.raw.RawProgram.{RawProgram}
+
+abbrev pub is_left_out : {A : Type 0} → Part A → Bool
+is_left_out (parts.Served x) = false
+is_left_out parts.LeftOut = true
+
+abbrev pub type_left_out : HeaderType → Bool
+type_left_out type = list_any (λ field. is_left_out field.width) type.fields
+
+abbrev pub term_left_out : Term → Bool
+term_left_out (terms.Literal literal) = is_left_out literal
+term_left_out (terms.Header header) = is_left_out header
+term_left_out terms.LeftOut = true
+term_left_out _ = false
+
+abbrev pub expression_left_out : Expression → Bool
+expression_left_out expression = list_any term_left_out expression.terms
+
+abbrev pub condition_left_out : Option Expression → Bool
+condition_left_out None = false
+condition_left_out (Some condition) = expression_left_out condition
+
+abbrev pub name_left_out : LearnListName → Bool
+name_left_out (names.Name name) = false
+name_left_out (names.Id id) = is_left_out id
+name_left_out names.LeftOut = true
+
+abbrev pub primitive_left_out : Primitive → Bool
+primitive_left_out (primitives.Assign target value) = is_left_out target || expression_left_out value
+primitive_left_out (primitives.AddHeader header) = is_left_out header
+primitive_left_out (primitives.RemoveHeader header) = is_left_out header
+primitive_left_out (primitives.AssignHeader target source) = is_left_out target || is_left_out source
+primitive_left_out primitives.Drop = false
+primitive_left_out (primitives.Count counter index) = is_left_out counter || expression_left_out index
+primitive_left_out (primitives.GenerateDigest name) = name_left_out name
+primitive_left_out primitives.NoOp = false
+primitive_left_out primitives.LeftOut = true
+primitive_left_out (primitives.Unknown name) = false
+
+abbrev pub action_left_out : Action → Bool
+action_left_out action = list_any (λ datum. is_left_out datum.width) action.runtime_data || list_any primitive_left_out action.primitives
+
+abbrev pub parser_op_left_out : ParserOp → Bool
+parser_op_left_out (parser_ops.Extract header) = is_left_out header
+parser_op_left_out (parser_ops.Set target value) = is_left_out target || expression_left_out value
+parser_op_left_out parser_ops.LeftOut = true
+parser_op_left_out (parser_ops.Unknown name) = false
+
+abbrev pub match_left_out : MatchValue → Bool
+match_left_out matches.Default = false
+match_left_out (matches.Literal literal) = is_left_out literal
+match_left_out matches.LeftOut = true
+
+abbrev pub mask_left_out : Option (Part ℕ) → Bool
+mask_left_out None = false
+mask_left_out (Some mask) = is_left_out mask
+
+abbrev pub transition_left_out : Transition → Bool
+transition_left_out transition = match_left_out transition.value || mask_left_out transition.mask
+
+abbrev pub state_left_out : ParseState → Bool
+state_left_out state = list_any parser_op_left_out state.parser_ops || list_any is_left_out state.transition_key || list_any transition_left_out state.transitions
+
+abbrev pub input_left_out : CalculationInput → Bool
+input_left_out (inputs.Field field) = false
+input_left_out (inputs.Literal value width) = is_left_out value || is_left_out width
+input_left_out inputs.LeftOut = true
+
+abbrev pub calculation_left_out : Calculation → Bool
+calculation_left_out calculation = list_any input_left_out calculation.input
+
+abbrev pub checksum_left_out : Checksum → Bool
+checksum_left_out checksum = condition_left_out checksum.if_cond
+
+abbrev pub learn_list_left_out : LearnList → Bool
+learn_list_left_out list = list_any is_left_out list.elements
+
+abbrev pub default_left_out : Option DefaultEntry → Bool
+default_left_out None = false
+default_left_out (Some entry) = list_any is_left_out entry.action_data
+
+-- entries are written in the program, or a default's literal is too long
+abbrev pub table_left_out : Table → Bool
+table_left_out table = table.has_entries || default_left_out table.default_entry
+
+abbrev pub selector_left_out : Option Selector → Bool
+selector_left_out None = false
+selector_left_out (Some selector) = list_any is_left_out selector.input
+
+abbrev pub pipeline_left_out : Pipeline → Bool
+pipeline_left_out pipeline =
+    list_any table_left_out pipeline.tables || list_any (λ profile. selector_left_out profile.selector) pipeline.action_profiles || list_any (λ conditional. expression_left_out conditional.expression) pipeline.conditionals
+
+abbrev pub width_bits : Part ℕ → ℕ
+width_bits (parts.Served bits) = bits
+width_bits parts.LeftOut = 0
+
+-- the bits of fields behind whole bytes
+abbrev pub bits_over : List TypeField → ℕ
+bits_over fields = fold (λ bits field. (bits + width_bits field.width) % 8) 0 fields
+
+abbrev pub type_named : List HeaderType → List ℕ → Option HeaderType
+type_named types name = find (λ type. bytes_eq type.name name) types
+
+abbrev pub is_ragged_type : Option HeaderType → Bool
+is_ragged_type None = false
+is_ragged_type (Some type) = not (bits_over type.fields == 0)
+
+-- a header that is no metadata, and not whole bytes
+abbrev pub is_ragged : List HeaderType → Header → Bool
+is_ragged types header = not header.metadata && is_ragged_type (type_named types header.header_type)
+
+abbrev pub headers_left_out : RawProgram → Bool
+headers_left_out program = program.lists_left_out || list_any type_left_out program.header_types || list_any (is_ragged program.header_types) program.headers
+
+abbrev pub objects_left_out : RawProgram → Bool
+objects_left_out program =
+    list_any calculation_left_out program.calculations || list_any checksum_left_out program.checksums || list_any learn_list_left_out program.learn_lists || list_any action_left_out program.actions
+
+abbrev pub steps_left_out : RawProgram → Bool
+steps_left_out program = list_any state_left_out program.parser.parse_states || pipeline_left_out program.pipelines.ingress || pipeline_left_out program.pipelines.egress
+
+-- the program has a form that is left out
+unfoldable pub has_left_out : RawProgram → Bool
+has_left_out program = headers_left_out program || objects_left_out program || steps_left_out program

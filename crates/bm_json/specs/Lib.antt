@@ -1,0 +1,3 @@
+pub mod LeftOut
+pub mod Limits
+pub mod Program

@@ -1,0 +1,16 @@
+//! Why there are no raw records.
+use p4_types::list::Text;
+
+/// The rule of a configuration that is broken first: L1 by 1, and so on. The place is for people.
+#[derive(Drop)]
+pub struct JsonFault {
+    pub rule: u8,
+    pub at: Text,
+}
+
+/// Why there are no raw records.
+#[derive(Drop)]
+pub enum JsonError {
+    NoMemory,
+    Fault(JsonFault),
+}

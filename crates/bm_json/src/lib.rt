@@ -1,0 +1,11 @@
+//! The raw records of a pipeline in BMv2's JSON form, in this project's profile of it.
+#![tactic(auto)]
+
+mod faults;
+mod left_out;
+mod limits;
+mod program;
+
+pub use bm_records::raw;
+pub use faults::{JsonError, JsonFault};
+pub use program::read_json;

@@ -1,0 +1,177 @@
+//! A program, and the bytes that it stands in.
+ghost use Rattle.std.specs.Prelude.{◌≡◌, codes};
+ghost use Rattle.serde_json.specs.View.{view};
+ghost use Rattle.json_shapes.specs.Shapes.{required, list_or_empty, list_unless_absent};
+ghost use Rattle.bm_records.specs.Objects.{error_of};
+ghost use Rattle.bm_json.specs.Program.{lists_state, lists_stacks, lists_left_out, program_of, json_in, program_in, flaw_of, Answers, Finds, IsOfRule};
+
+use crate::faults::{JsonError, JsonFault};
+use crate::{left_out, limits};
+use bm_records::raw::{Deparser, ErrorNumber, Parser, RawProgram};
+use json_shapes::ShapeError;
+use json_shapes::arrays::Only;
+use json_shapes::shapes::{self, FromJson};
+use p4_types::list::{List, Text};
+use serde_json::Value;
+use std::alloc::Global;
+
+/// The greatest device configuration, in bytes.
+const LONGEST: usize = 4_194_304;
+
+fn lists_state(value: &Value) -> bool
+    ensures { result ≡ lists_state (view value.now) }
+{
+    shapes::has_items(value, "register_arrays")
+        || shapes::has_items(value, "meter_arrays")
+        || shapes::has_items(value, "extern_instances")
+}
+
+fn lists_stacks(value: &Value) -> bool
+    ensures { result ≡ lists_stacks (view value.now) }
+{
+    shapes::has_items(value, "parse_vsets")
+        || shapes::has_items(value, "header_stacks")
+        || shapes::has_items(value, "header_unions")
+        || shapes::has_items(value, "header_union_stacks")
+}
+
+#[tactic(auto, unfolding(crate::specs::Program::lists_left_out))]
+fn lists_left_out(value: &Value) -> bool
+    ensures { result ≡ lists_left_out (view value.now) }
+{
+    lists_state(value) || lists_stacks(value)
+}
+
+fn at_rule(alloc: Global, rule: u8, place: &str) -> JsonError
+    ensures { IsOfRule result rule }
+{
+    match String::from_str(alloc, place) {
+        Ok(place) => JsonError::Fault(JsonFault {
+            rule,
+            at: Text::from_string(place),
+        }),
+        Err(_) => JsonError::NoMemory,
+    }
+}
+
+#[tactic(auto, using(crate::proofs::Refusals::refuses))]
+fn member<T: FromJson>(alloc: Global, value: &Value, name: &str) -> Result<T, JsonError>
+    ensures { Finds (λ x. x) result (required T.shape name.now (view value.now)) }
+{
+    match shapes::required(alloc, value, name) {
+        Ok(member) => Ok(member),
+        Err(ShapeError::NoMemory) => Err(JsonError::NoMemory),
+        Err(ShapeError::Shape) => Err(at_rule(alloc, 1, name)),
+    }
+}
+
+#[tactic(auto, using(crate::proofs::Refusals::refuses))]
+fn list<T: FromJson>(alloc: Global, value: &Value, name: &str) -> Result<List<T>, JsonError>
+    ensures { Finds (λ x. x) result (list_or_empty T.shape name.now (view value.now)) }
+{
+    match shapes::list_or_empty(alloc, value, name) {
+        Ok(list) => Ok(list),
+        Err(ShapeError::NoMemory) => Err(JsonError::NoMemory),
+        Err(ShapeError::Shape) => Err(at_rule(alloc, 1, name)),
+    }
+}
+
+#[tactic(auto, using(crate::proofs::Refusals::refuses))]
+fn errors(alloc: Global, value: &Value) -> Result<List<ErrorNumber>, JsonError>
+    ensures { Finds (λ x. x) result (list_unless_absent error_of (codes "errors") (view value.now)) }
+{
+    match shapes::list_unless_absent(alloc, value, "errors") {
+        Ok(errors) => Ok(errors),
+        Err(ShapeError::NoMemory) => Err(JsonError::NoMemory),
+        Err(ShapeError::Shape) => Err(at_rule(alloc, 1, "errors")),
+    }
+}
+
+#[tactic(auto, unfolding(crate::specs::Program::program_of))]
+fn program_of(alloc: Global, value: &Value) -> Result<RawProgram, JsonError>
+    ensures { Finds (λ x. x) result (program_of (view value.now)) }
+{
+    let header_types = member(alloc, value, "header_types")?;
+    let headers = member(alloc, value, "headers")?;
+    let errors = errors(alloc, value)?;
+    let parser: Only<Parser> = member(alloc, value, "parsers")?;
+    let deparser: Only<Deparser> = member(alloc, value, "deparsers")?;
+    let counter_arrays = list(alloc, value, "counter_arrays")?;
+    let calculations = list(alloc, value, "calculations")?;
+    let checksums = list(alloc, value, "checksums")?;
+    let learn_lists = list(alloc, value, "learn_lists")?;
+    let actions = member(alloc, value, "actions")?;
+    let pipelines = member(alloc, value, "pipelines")?;
+    let lists_left_out = lists_left_out(value);
+    Ok(RawProgram {
+        header_types,
+        headers,
+        errors,
+        parser: parser.only,
+        deparser: deparser.only,
+        counter_arrays,
+        calculations,
+        checksums,
+        learn_lists,
+        actions,
+        pipelines,
+        lists_left_out,
+    })
+}
+
+#[tactic(auto, using(crate::proofs::Refusals::refuses))]
+fn json_in(alloc: Global, bytes: &[u8]) -> Result<Value, JsonError>
+    ensures { Finds view result (json_in bytes.now) }
+{
+    match str::from_utf8(bytes) {
+        Err(_) => Err(at_rule(alloc, 1, "UTF-8")),
+        Ok(text) => match Value::from_str(alloc, text) {
+            Ok(value) => Ok(value),
+            Err(error) => {
+                if error.is_memory() {
+                    Err(JsonError::NoMemory)
+                } else {
+                    Err(at_rule(alloc, 1, "JSON"))
+                }
+            }
+        },
+    }
+}
+
+#[tactic(auto, unfolding(crate::specs::Program::program_in), using(crate::proofs::Refusals::refuses))]
+fn program_in(alloc: Global, bytes: &[u8]) -> Result<RawProgram, JsonError>
+    ensures { Finds (λ x. x) result (program_in bytes.now) }
+{
+    if bytes.len() > LONGEST {
+        return Err(at_rule(alloc, 1, "length"));
+    }
+    let value = json_in(alloc, bytes)?;
+    program_of(alloc, &value)
+}
+
+fn flaw_of(program: &RawProgram) -> Option<u8>
+    ensures { result ≡ flaw_of program.now }
+{
+    if left_out::has_left_out(program) {
+        Some(2)
+    } else if limits::exceeds(program) {
+        Some(3)
+    } else {
+        None
+    }
+}
+
+/// The raw records of a program in BMv2's JSON form, or the first rule of L1 to L3 that it breaks: it
+/// is not JSON of the profile's shapes, it has a form that is left out, or it exceeds a limit.
+#[tactic(auto, using(crate::proofs::Refusals::breaks, crate::proofs::Refusals::is_first))]
+pub fn read_json(alloc: Global, bytes: &[u8]) -> Result<RawProgram, JsonError>
+    ensures { Answers bytes.now result }
+{
+    match program_in(alloc, bytes) {
+        Err(error) => Err(error),
+        Ok(program) => match flaw_of(&program) {
+            None => Ok(program),
+            Some(rule) => Err(at_rule(alloc, rule, "program")),
+        },
+    }
+}

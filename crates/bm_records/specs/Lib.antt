@@ -1,0 +1,5 @@
+pub mod Operations
+pub mod Primitives
+pub mod Parsers
+pub mod Objects
+pub mod Pipelines

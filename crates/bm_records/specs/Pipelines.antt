@@ -1,0 +1,156 @@
+-- Tables, action profiles, conditionals and pipelines (BMv2 JSON form, "pipelines").
+use Rattle.std.specs.Prelude.{ℕ, ◌==◌, if◌then◌else◌, List, [], ◌∷◌, length, Option, Some, None, is_some, codes}
+use Rattle.std.specs.Str.{bytes_eq}
+use Rattle.p4_types.specs.declared.info.MatchKind.{MatchKind}
+use Rattle.p4_types.specs.declared.info.MatchKind.TheVariants as match_kinds
+use Rattle.serde_json.specs.Data.{Data}
+use Rattle.serde_json.specs.Find.{get, as_null, as_str, as_object}
+use Rattle.bm_records.specs.declared.raw.KeyField.{KeyField}
+use Rattle.bm_records.specs.declared.raw.TableKind.{TableKind}
+use Rattle.bm_records.specs.declared.raw.TableKind.TheVariants as table_kinds
+use Rattle.bm_records.specs.declared.raw.Next.{Next}
+use Rattle.bm_records.specs.declared.raw.Next.TheVariants as nexts
+use Rattle.bm_records.specs.declared.raw.DefaultEntry.{DefaultEntry}
+use Rattle.bm_records.specs.declared.raw.Table.{Table}
+use Rattle.bm_records.specs.declared.raw.Selector.{Selector}
+use Rattle.bm_records.specs.declared.raw.ActionProfile.{ActionProfile}
+use Rattle.bm_records.specs.declared.raw.Conditional.{Conditional}
+use Rattle.bm_records.specs.declared.raw.Gress.{Gress}
+use Rattle.bm_records.specs.declared.raw.Gress.TheVariants as gresses
+use Rattle.bm_records.specs.declared.raw.Pipeline.{Pipeline}
+use Rattle.bm_records.specs.declared.raw.Pipelines.{Pipelines}
+use Rattle.json_shapes.specs.Shapes.{◌>>=◌, natural_of, required, nullable, optional, list_of, list_or_empty, unless_absent, nothing_in, filled}
+use Rattle.json_shapes.specs.Arrays.{item_count, item_at, of_count}
+use Rattle.bm_values.specs.Literals.{literal_of}
+use Rattle.bm_values.specs.Values.{field_name, field_value}
+use Rattle.bm_values.specs.Expressions.{expression_of}
+
+abbrev pub match_kind : List ℕ → Option MatchKind
+match_kind text =
+    if bytes_eq text (codes "exact") then Some match_kinds.Exact
+    else if bytes_eq text (codes "lpm") then Some match_kinds.Lpm
+    else if bytes_eq text (codes "ternary") then Some match_kinds.Ternary
+    else if bytes_eq text (codes "range") then Some match_kinds.Range
+    else if bytes_eq text (codes "optional") then Some match_kinds.Optional
+    else None
+
+-- a field of a key, without a mask
+unfoldable pub key_field_of : Data → Option KeyField
+key_field_of d = do
+  text ← required as_str (codes "match_type") d
+  kind ← match_kind text
+  target ← required field_name (codes "target") d
+  _ ← unless_absent as_null (codes "mask") d
+  Some (record { kind = kind; target = target })
+
+abbrev pub table_kind : List ℕ → Option TableKind
+table_kind text =
+    if bytes_eq text (codes "simple") then Some table_kinds.Simple
+    else if bytes_eq text (codes "indirect") then Some table_kinds.Indirect
+    else if bytes_eq text (codes "indirect_ws") then Some table_kinds.IndirectWithSelector
+    else None
+
+-- an indirect table names its action profile
+abbrev pub profile_by : TableKind → Data → Option (Option (List ℕ))
+profile_by table_kinds.Simple d = Some None
+profile_by _ d = required as_str (codes "action_profile") d >>= λ name. Some (Some name)
+
+abbrev pub next_by : Option (Option (List ℕ)) → Next
+next_by None = nexts.NotNamed
+next_by (Some None) = nexts.End
+next_by (Some (Some node)) = nexts.Node node
+
+-- what `next_tables` says of an outcome
+abbrev pub next_in : List ℕ → Option Data → Option Next
+next_in name None = Some nexts.NotNamed
+next_in name (Some d) =
+    if is_some (as_null d) then Some nexts.NotNamed
+    else if is_some (as_object d) then (unless_absent (nullable as_str) name d >>= λ given. Some (next_by given))
+    else None
+
+unfoldable pub next_at : List ℕ → Data → Option Next
+next_at name d = next_in name (get (codes "next_tables") d)
+
+-- what follows each of these actions
+abbrev pub each_next : List (List ℕ) → Data → Option (List Next)
+each_next [] d = Some []
+each_next (name ∷ rest) d = next_at name d >>= λ next. each_next rest d >>= λ others. Some (next ∷ others)
+
+unfoldable pub default_of : Data → Option DefaultEntry
+default_of d = do
+  action_id ← required natural_of (codes "action_id") d
+  action_data ← required (list_of literal_of) (codes "action_data") d
+  Some (record { action_id = action_id; action_data = action_data })
+
+abbrev pub if_as_many : {A : Type 0} → ℕ → ℕ → Option A → Option A
+if_as_many n m read = if n == m then read else None
+
+-- a table with its actions' ids and names side by side
+unfoldable pub table_of : Data → Option Table
+table_of d = do
+  name ← required as_str (codes "name") d
+  key ← required (list_of key_field_of) (codes "key") d
+  text ← required as_str (codes "type") d
+  kind ← table_kind text
+  action_profile ← profile_by kind d
+  action_ids ← required (list_of natural_of) (codes "action_ids") d
+  actions ← required (list_of as_str) (codes "actions") d
+  followers ← if_as_many (length action_ids) (length actions) (each_next actions d)
+  hit ← next_at (codes "__HIT__") d
+  miss ← next_at (codes "__MISS__") d
+  base_default_next ← optional as_str (codes "base_default_next") d
+  default_entry ← unless_absent default_of (codes "default_entry") d
+  has_entries ← filled (codes "entries") d
+  Some (record { name = name; key = key; kind = kind; action_profile = action_profile; action_ids = action_ids; actions = actions; nexts = followers; hit = hit; miss = miss; base_default_next = base_default_next; default_entry = default_entry; has_entries = has_entries })
+
+unfoldable pub selector_of : Data → Option Selector
+selector_of d = do
+  input ← required (list_of field_value) (codes "input") d
+  Some (record { input = input })
+
+unfoldable pub profile_of : Data → Option ActionProfile
+profile_of d = do
+  name ← required as_str (codes "name") d
+  selector ← optional selector_of (codes "selector") d
+  Some (record { name = name; selector = selector })
+
+unfoldable pub conditional_of : Data → Option Conditional
+conditional_of d = do
+  name ← required as_str (codes "name") d
+  expression ← required expression_of (codes "expression") d
+  true_next ← required (nullable as_str) (codes "true_next") d
+  false_next ← required (nullable as_str) (codes "false_next") d
+  Some (record { name = name; expression = expression; true_next = true_next; false_next = false_next })
+
+abbrev pub gress : List ℕ → Option Gress
+gress text =
+    if bytes_eq text (codes "ingress") then Some gresses.Ingress
+    else if bytes_eq text (codes "egress") then Some gresses.Egress
+    else None
+
+unfoldable pub pipeline_of : Data → Option Pipeline
+pipeline_of d = do
+  text ← required as_str (codes "name") d
+  side ← gress text
+  init_table ← required (nullable as_str) (codes "init_table") d
+  tables ← required (list_of table_of) (codes "tables") d
+  action_profiles ← list_or_empty profile_of (codes "action_profiles") d
+  conditionals ← list_or_empty conditional_of (codes "conditionals") d
+  _ ← nothing_in (codes "action_calls") d
+  Some (record { gress = side; init_table = init_table; tables = tables; action_profiles = action_profiles; conditionals = conditionals })
+
+abbrev pub sides : Gress → Gress → Pipeline → Pipeline → Option Pipelines
+sides gresses.Ingress gresses.Egress first second = Some (record { ingress = first; egress = second })
+sides gresses.Egress gresses.Ingress first second = Some (record { ingress = second; egress = first })
+sides gresses.Ingress gresses.Ingress first second = None
+sides gresses.Egress gresses.Egress first second = None
+
+abbrev pub both_at : Data → Option Pipelines
+both_at d = do
+  first ← item_at pipeline_of 0 d
+  second ← item_at pipeline_of 1 d
+  sides first.gress second.gress first second
+
+-- an ingress and an egress
+unfoldable pub pipelines_of : Data → Option Pipelines
+pipelines_of d = item_count d >>= λ n. of_count 2 n (both_at d)

@@ -1,0 +1,102 @@
+//! Kinds of primitives and of parsers' operations, by their names in JSON.
+ghost use Rattle.std.specs.Prelude.{◌≡◌, nat_eq};
+ghost use Rattle.std.specs.List.{starts_with};
+ghost use Rattle.bm_records.specs.Operations.{begins_left_out, is_named_left_out, is_left_out_primitive, primitive_kind, parser_op_kind};
+
+/// The kind of a primitive.
+#[derive(Clone, Copy)]
+pub(crate) enum PrimitiveKind {
+    Assign,
+    AddHeader,
+    RemoveHeader,
+    AssignHeader,
+    Drop,
+    Count,
+    GenerateDigest,
+    NoOp,
+    LeftOut,
+    Unknown,
+}
+
+fn begins_with(op: &str, beginning: &str) -> bool
+    ensures { result ≡ starts_with nat_eq op.now beginning.now }
+{
+    op.as_bytes().starts_with(beginning.as_bytes())
+}
+
+fn begins_left_out(op: &str) -> bool
+    ensures { result ≡ begins_left_out op.now }
+{
+    begins_with(op, "clone")
+        || begins_with(op, "register_")
+        || begins_with(op, "assign_union")
+        || begins_with(op, "_jump")
+}
+
+fn is_named_left_out(op: &str) -> bool
+    ensures { result ≡ is_named_left_out op.now }
+{
+    op == "resubmit"
+        || op == "recirculate"
+        || op == "execute_meter"
+        || op == "push"
+        || op == "pop"
+        || op == "assign_header_stack"
+        || op == "remove_union"
+}
+
+fn is_left_out_primitive(op: &str) -> bool
+    ensures { result ≡ is_left_out_primitive op.now }
+{
+    begins_left_out(op) || is_named_left_out(op)
+}
+
+#[tactic(auto, unfolding(crate::specs::Operations::primitive_kind))]
+pub(crate) fn primitive_kind(op: &str) -> PrimitiveKind
+    ensures { result ≡ primitive_kind op.now }
+{
+    if op == "assign" {
+        PrimitiveKind::Assign
+    } else if op == "add_header" {
+        PrimitiveKind::AddHeader
+    } else if op == "remove_header" {
+        PrimitiveKind::RemoveHeader
+    } else if op == "assign_header" {
+        PrimitiveKind::AssignHeader
+    } else if op == "mark_to_drop" || op == "drop" {
+        PrimitiveKind::Drop
+    } else if op == "count" {
+        PrimitiveKind::Count
+    } else if op == "generate_digest" {
+        PrimitiveKind::GenerateDigest
+    } else if op == "no_op" {
+        PrimitiveKind::NoOp
+    } else if is_left_out_primitive(op) {
+        PrimitiveKind::LeftOut
+    } else {
+        PrimitiveKind::Unknown
+    }
+}
+
+/// The kind of a parser's operation.
+#[derive(Clone, Copy)]
+pub(crate) enum ParserOpKind {
+    Extract,
+    Set,
+    LeftOut,
+    Unknown,
+}
+
+pub(crate) fn parser_op_kind(op: &str) -> ParserOpKind
+    ensures { result ≡ parser_op_kind op.now }
+{
+    if op == "extract" {
+        ParserOpKind::Extract
+    } else if op == "set" {
+        ParserOpKind::Set
+    } else if op == "extract_VL" || op == "verify" {
+        ParserOpKind::LeftOut
+    } else {
+        ParserOpKind::Unknown
+    }
+}

@@ -1,0 +1,199 @@
+//! The parser and the deparser.
+ghost use Rattle.std.specs.Prelude.{◌≡◌};
+ghost use Rattle.std.specs.Prelude as spec;
+ghost use Rattle.serde_json.specs.View.{view};
+ghost use Rattle.json_shapes.specs.Shapes.{Reads};
+ghost use Rattle.bm_records.specs.Parsers.{extracted_by, extracted, set_of, parser_op_by, parser_op_of, match_text, match_by, match_of, transition_of, state_of, parser_of, deparser_of};
+
+use crate::operations::{self, ParserOpKind};
+use crate::raw::{Deparser, MatchValue, ParseState, Parser, ParserOp, Part, Transition};
+use bm_values::kinds::ValueKind;
+use bm_values::{literals, values};
+use json_shapes::shapes::{self, FromJson};
+use json_shapes::{ShapeError, arrays};
+use p4_types::list::Text;
+use serde_json::Value;
+use std::alloc::Global;
+
+fn extracted_by(alloc: Global, kind: ValueKind, value: &Value) -> Result<Part<Text>, ShapeError>
+    ensures { Reads result (extracted_by kind (view value.now)) }
+{
+    match kind {
+        ValueKind::Regular => {
+            let header = shapes::required(alloc, value, "value")?;
+            Ok(Part::Served(header))
+        }
+        ValueKind::LeftOut => Ok(Part::LeftOut),
+        _ => Err(ShapeError::Shape),
+    }
+}
+
+#[tactic(auto, unfolding(crate::specs::Parsers::extracted, json_shapes::specs::Arrays::item_at))]
+fn extracted(alloc: Global, parameters: &Value) -> Result<Part<Text>, ShapeError>
+    ensures { Reads result (extracted (view parameters.now)) }
+{
+    let Some(value) = parameters.get(0usize) else {
+        return Err(ShapeError::Shape);
+    };
+    let kind = values::kind_of(value)?;
+    extracted_by(alloc, kind, value)
+}
+
+#[tactic(auto, unfolding(crate::specs::Parsers::set_of))]
+fn set(alloc: Global, parameters: &Value) -> Result<ParserOp, ShapeError>
+    ensures { Reads result (set_of (view parameters.now)) }
+{
+    let target = arrays::item_at(alloc, parameters, 0)?;
+    let value = arrays::item_at(alloc, parameters, 1)?;
+    Ok(ParserOp::Set { target, value })
+}
+
+fn parser_op_by(
+    alloc: Global,
+    kind: ParserOpKind,
+    op: Text,
+    count: usize,
+    parameters: &Value,
+) -> Result<ParserOp, ShapeError>
+    ensures { Reads result (parser_op_by kind op count (view parameters.now)) }
+{
+    match kind {
+        ParserOpKind::Extract => {
+            arrays::of_count(1, count)?;
+            let header = extracted(alloc, parameters)?;
+            Ok(ParserOp::Extract(header))
+        }
+        ParserOpKind::Set => {
+            arrays::of_count(2, count)?;
+            set(alloc, parameters)
+        }
+        ParserOpKind::LeftOut => Ok(ParserOp::LeftOut),
+        ParserOpKind::Unknown => Ok(ParserOp::Unknown(op)),
+    }
+}
+
+impl FromJson for ParserOp {
+    ghost shape = { parser_op_of };
+
+    #[tactic(auto, unfolding(crate::specs::Parsers::parser_op_of))]
+    fn from_json(alloc: Global, value: &Value) -> Result<ParserOp, ShapeError> {
+        let op: Text = shapes::required(alloc, value, "op")?;
+        let Some(parameters) = value.get("parameters") else {
+            return Err(ShapeError::Shape);
+        };
+        let count = arrays::item_count(parameters)?;
+        let kind = operations::parser_op_kind(op.as_str());
+        parser_op_by(alloc, kind, op, count, parameters)
+    }
+}
+
+fn match_text(text: &str) -> Result<MatchValue, ShapeError>
+    ensures { Reads result (match_text text.now) }
+{
+    if text == "default" {
+        return Ok(MatchValue::Default);
+    }
+    match literals::literal_text(text.as_bytes()) {
+        Some(literal) => Ok(MatchValue::Literal(literal)),
+        None => Err(ShapeError::Shape),
+    }
+}
+
+#[tactic(auto, unfolding(json_shapes::specs::Shapes::required))]
+fn match_value(value: &Value) -> Result<MatchValue, ShapeError>
+    ensures { Reads result (match_by spec.None (view value.now)) }
+{
+    let Some(inside) = value.get("value") else {
+        return Err(ShapeError::Shape);
+    };
+    match inside.as_str() {
+        Some(text) => match_text(text),
+        None => Err(ShapeError::Shape),
+    }
+}
+
+fn match_by(kind: &Option<Text>, value: &Value) -> Result<MatchValue, ShapeError>
+    ensures { Reads result (match_by kind.now (view value.now)) }
+{
+    match kind {
+        None => match_value(value),
+        Some(kind) => {
+            if kind.as_str() == "default" {
+                Ok(MatchValue::Default)
+            } else if kind.as_str() == "hexstr" {
+                match_value(value)
+            } else if kind.as_str() == "parse_vset" {
+                Ok(MatchValue::LeftOut)
+            } else {
+                Err(ShapeError::Shape)
+            }
+        }
+    }
+}
+
+#[tactic(auto, unfolding(crate::specs::Parsers::match_of))]
+fn match_of(alloc: Global, value: &Value) -> Result<MatchValue, ShapeError>
+    ensures { Reads result (match_of (view value.now)) }
+{
+    let kind = shapes::unless_absent(alloc, value, "type")?;
+    match_by(&kind, value)
+}
+
+impl FromJson for Transition {
+    ghost shape = { transition_of };
+
+    #[tactic(auto, unfolding(crate::specs::Parsers::transition_of))]
+    fn from_json(alloc: Global, value: &Value) -> Result<Transition, ShapeError> {
+        let matched = match_of(alloc, value)?;
+        let mask = shapes::required(alloc, value, "mask")?;
+        let next_state = shapes::required(alloc, value, "next_state")?;
+        Ok(Transition {
+            value: matched,
+            mask,
+            next_state,
+        })
+    }
+}
+
+impl FromJson for ParseState {
+    ghost shape = { state_of };
+
+    #[tactic(auto, unfolding(crate::specs::Parsers::state_of))]
+    fn from_json(alloc: Global, value: &Value) -> Result<ParseState, ShapeError> {
+        let name = shapes::required(alloc, value, "name")?;
+        let parser_ops = shapes::required(alloc, value, "parser_ops")?;
+        let transition_key = shapes::required(alloc, value, "transition_key")?;
+        let transitions = shapes::required(alloc, value, "transitions")?;
+        Ok(ParseState {
+            name,
+            parser_ops,
+            transition_key,
+            transitions,
+        })
+    }
+}
+
+impl FromJson for Parser {
+    ghost shape = { parser_of };
+
+    #[tactic(auto, unfolding(crate::specs::Parsers::parser_of))]
+    fn from_json(alloc: Global, value: &Value) -> Result<Parser, ShapeError> {
+        let init_state = shapes::required(alloc, value, "init_state")?;
+        let parse_states = shapes::required(alloc, value, "parse_states")?;
+        Ok(Parser {
+            init_state,
+            parse_states,
+        })
+    }
+}
+
+impl FromJson for Deparser {
+    ghost shape = { deparser_of };
+
+    #[tactic(auto, unfolding(crate::specs::Parsers::deparser_of))]
+    fn from_json(alloc: Global, value: &Value) -> Result<Deparser, ShapeError> {
+        let order = shapes::required(alloc, value, "order")?;
+        shapes::nothing_in(value, "primitives")?;
+        Ok(Deparser { order })
+    }
+}

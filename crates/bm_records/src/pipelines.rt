@@ -1,0 +1,276 @@
+//! Tables, action profiles, conditionals and pipelines.
+ghost use Rattle.std.specs.Prelude.{◌≡◌, length};
+ghost use Rattle.serde_json.specs.View.{view};
+ghost use Rattle.json_shapes.specs.Shapes.{Reads};
+ghost use Rattle.bm_records.specs.Pipelines.{match_kind, key_field_of, table_kind, profile_by, next_by, next_at, each_next, if_as_many, default_of, table_of, selector_of, profile_of, conditional_of, gress, pipeline_of, sides, pipelines_of};
+
+use crate::raw::{
+    ActionProfile, Conditional, DefaultEntry, Gress, KeyField, Next, Pipeline, Pipelines, Selector,
+    Table, TableKind,
+};
+use json_shapes::shapes::{self, FromJson};
+use json_shapes::{ShapeError, arrays};
+use p4_types::info::MatchKind;
+use p4_types::list::{List, Text};
+use serde_json::Value;
+use std::alloc::Global;
+
+fn match_kind(text: &str) -> Result<MatchKind, ShapeError>
+    ensures { Reads result (match_kind text.now) }
+{
+    if text == "exact" {
+        Ok(MatchKind::Exact)
+    } else if text == "lpm" {
+        Ok(MatchKind::Lpm)
+    } else if text == "ternary" {
+        Ok(MatchKind::Ternary)
+    } else if text == "range" {
+        Ok(MatchKind::Range)
+    } else if text == "optional" {
+        Ok(MatchKind::Optional)
+    } else {
+        Err(ShapeError::Shape)
+    }
+}
+
+impl FromJson for KeyField {
+    ghost shape = { key_field_of };
+
+    #[tactic(auto, unfolding(crate::specs::Pipelines::key_field_of))]
+    fn from_json(alloc: Global, value: &Value) -> Result<KeyField, ShapeError> {
+        let text: Text = shapes::required(alloc, value, "match_type")?;
+        let kind = match_kind(text.as_str())?;
+        let target = shapes::required(alloc, value, "target")?;
+        let _mask: Option<()> = shapes::unless_absent(alloc, value, "mask")?;
+        Ok(KeyField { kind, target })
+    }
+}
+
+fn table_kind(text: &str) -> Result<TableKind, ShapeError>
+    ensures { Reads result (table_kind text.now) }
+{
+    if text == "simple" {
+        Ok(TableKind::Simple)
+    } else if text == "indirect" {
+        Ok(TableKind::Indirect)
+    } else if text == "indirect_ws" {
+        Ok(TableKind::IndirectWithSelector)
+    } else {
+        Err(ShapeError::Shape)
+    }
+}
+
+fn profile_by(alloc: Global, kind: TableKind, value: &Value) -> Result<Option<Text>, ShapeError>
+    ensures { Reads result (profile_by kind (view value.now)) }
+{
+    match kind {
+        TableKind::Simple => Ok(None),
+        _ => {
+            let name = shapes::required(alloc, value, "action_profile")?;
+            Ok(Some(name))
+        }
+    }
+}
+
+fn next_by(given: Option<Option<Text>>) -> Next
+    ensures { result ≡ next_by given }
+{
+    match given {
+        None => Next::NotNamed,
+        Some(None) => Next::End,
+        Some(Some(node)) => Next::Node(node),
+    }
+}
+
+#[tactic(auto, unfolding(crate::specs::Pipelines::next_at))]
+fn next_at(alloc: Global, value: &Value, name: &str) -> Result<Next, ShapeError>
+    ensures { Reads result (next_at name.now (view value.now)) }
+{
+    let Some(nexts) = value.get("next_tables") else {
+        return Ok(Next::NotNamed);
+    };
+    if nexts.is_null() {
+        return Ok(Next::NotNamed);
+    }
+    if !nexts.is_object() {
+        return Err(ShapeError::Shape);
+    }
+    let given = shapes::unless_absent(alloc, nexts, name)?;
+    Ok(next_by(given))
+}
+
+fn each_next(alloc: Global, names: &[Text], value: &Value) -> Result<List<Next>, ShapeError>
+    ensures { Reads result (each_next names.now (view value.now)) }
+{
+    let mut nexts = List::new(alloc);
+    for name in names {
+        let next = next_at(alloc, value, name.as_str())?;
+        nexts.push(next)?;
+    }
+    Ok(nexts)
+}
+
+fn nexts_of(
+    alloc: Global,
+    ids: &List<u64>,
+    names: &List<Text>,
+    value: &Value,
+) -> Result<List<Next>, ShapeError>
+    ensures { Reads result (if_as_many (length ids.now) (length names.now) (each_next names.now (view value.now))) }
+{
+    if ids.len() != names.len() {
+        return Err(ShapeError::Shape);
+    }
+    each_next(alloc, names.as_slice(), value)
+}
+
+impl FromJson for DefaultEntry {
+    ghost shape = { default_of };
+
+    #[tactic(auto, unfolding(crate::specs::Pipelines::default_of))]
+    fn from_json(alloc: Global, value: &Value) -> Result<DefaultEntry, ShapeError> {
+        let action_id = shapes::required(alloc, value, "action_id")?;
+        let action_data = shapes::required(alloc, value, "action_data")?;
+        Ok(DefaultEntry {
+            action_id,
+            action_data,
+        })
+    }
+}
+
+impl FromJson for Table {
+    ghost shape = { table_of };
+
+    #[tactic(auto, unfolding(crate::specs::Pipelines::table_of))]
+    fn from_json(alloc: Global, value: &Value) -> Result<Table, ShapeError> {
+        let name = shapes::required(alloc, value, "name")?;
+        let key = shapes::required(alloc, value, "key")?;
+        let text: Text = shapes::required(alloc, value, "type")?;
+        let kind = table_kind(text.as_str())?;
+        let action_profile = profile_by(alloc, kind, value)?;
+        let action_ids = shapes::required(alloc, value, "action_ids")?;
+        let actions = shapes::required(alloc, value, "actions")?;
+        let nexts = nexts_of(alloc, &action_ids, &actions, value)?;
+        let hit = next_at(alloc, value, "__HIT__")?;
+        let miss = next_at(alloc, value, "__MISS__")?;
+        let base_default_next = shapes::optional(alloc, value, "base_default_next")?;
+        let default_entry = shapes::unless_absent(alloc, value, "default_entry")?;
+        let has_entries = shapes::filled(value, "entries")?;
+        Ok(Table {
+            name,
+            key,
+            kind,
+            action_profile,
+            action_ids,
+            actions,
+            nexts,
+            hit,
+            miss,
+            base_default_next,
+            default_entry,
+            has_entries,
+        })
+    }
+}
+
+impl FromJson for Selector {
+    ghost shape = { selector_of };
+
+    #[tactic(auto, unfolding(crate::specs::Pipelines::selector_of))]
+    fn from_json(alloc: Global, value: &Value) -> Result<Selector, ShapeError> {
+        let input = shapes::required(alloc, value, "input")?;
+        Ok(Selector { input })
+    }
+}
+
+impl FromJson for ActionProfile {
+    ghost shape = { profile_of };
+
+    #[tactic(auto, unfolding(crate::specs::Pipelines::profile_of))]
+    fn from_json(alloc: Global, value: &Value) -> Result<ActionProfile, ShapeError> {
+        let name = shapes::required(alloc, value, "name")?;
+        let selector = shapes::optional(alloc, value, "selector")?;
+        Ok(ActionProfile { name, selector })
+    }
+}
+
+impl FromJson for Conditional {
+    ghost shape = { conditional_of };
+
+    #[tactic(auto, unfolding(crate::specs::Pipelines::conditional_of))]
+    fn from_json(alloc: Global, value: &Value) -> Result<Conditional, ShapeError> {
+        let name = shapes::required(alloc, value, "name")?;
+        let expression = shapes::required(alloc, value, "expression")?;
+        let true_next = shapes::required(alloc, value, "true_next")?;
+        let false_next = shapes::required(alloc, value, "false_next")?;
+        Ok(Conditional {
+            name,
+            expression,
+            true_next,
+            false_next,
+        })
+    }
+}
+
+fn gress(text: &str) -> Result<Gress, ShapeError>
+    ensures { Reads result (gress text.now) }
+{
+    if text == "ingress" {
+        Ok(Gress::Ingress)
+    } else if text == "egress" {
+        Ok(Gress::Egress)
+    } else {
+        Err(ShapeError::Shape)
+    }
+}
+
+impl FromJson for Pipeline {
+    ghost shape = { pipeline_of };
+
+    #[tactic(auto, unfolding(crate::specs::Pipelines::pipeline_of))]
+    fn from_json(alloc: Global, value: &Value) -> Result<Pipeline, ShapeError> {
+        let text: Text = shapes::required(alloc, value, "name")?;
+        let gress = gress(text.as_str())?;
+        let init_table = shapes::required(alloc, value, "init_table")?;
+        let tables = shapes::required(alloc, value, "tables")?;
+        let action_profiles = shapes::list_or_empty(alloc, value, "action_profiles")?;
+        let conditionals = shapes::list_or_empty(alloc, value, "conditionals")?;
+        shapes::nothing_in(value, "action_calls")?;
+        Ok(Pipeline {
+            gress,
+            init_table,
+            tables,
+            action_profiles,
+            conditionals,
+        })
+    }
+}
+
+fn sides(first: Pipeline, second: Pipeline) -> Result<Pipelines, ShapeError>
+    ensures { Reads result (sides first.gress second.gress first second) }
+{
+    match (first.gress, second.gress) {
+        (Gress::Ingress, Gress::Egress) => Ok(Pipelines {
+            ingress: first,
+            egress: second,
+        }),
+        (Gress::Egress, Gress::Ingress) => Ok(Pipelines {
+            ingress: second,
+            egress: first,
+        }),
+        _ => Err(ShapeError::Shape),
+    }
+}
+
+impl FromJson for Pipelines {
+    ghost shape = { pipelines_of };
+
+    #[tactic(auto, unfolding(crate::specs::Pipelines::pipelines_of))]
+    fn from_json(alloc: Global, value: &Value) -> Result<Pipelines, ShapeError> {
+        let count = arrays::item_count(value)?;
+        arrays::of_count(2, count)?;
+        let first = arrays::item_at(alloc, value, 0)?;
+        let second = arrays::item_at(alloc, value, 1)?;
+        sides(first, second)
+    }
+}

@@ -1,0 +1,93 @@
+-- Kinds of values and operators, by their names in JSON (BMv2 JSON form, "The type value object" and "expressions").
+use Rattle.std.specs.Prelude.{ℕ, Bool, ◌||◌, if◌then◌else◌, List, Option, Some, None, codes}
+use Rattle.std.specs.Str.{bytes_eq}
+use Rattle.bm_values.specs.declared.raw.Operator.{Operator}
+use Rattle.bm_values.specs.declared.raw.Operator.TheVariants as operators
+use Rattle.bm_values.specs.declared.kinds.ValueKind.{ValueKind}
+use Rattle.bm_values.specs.declared.kinds.ValueKind.TheVariants as kinds
+use Rattle.bm_values.specs.declared.kinds.Arity.{Arity}
+use Rattle.bm_values.specs.declared.kinds.Arity.TheVariants as arities
+
+-- a kind of values that is left out: of stacks, unions, registers, meters and externs, and what is looked up ahead
+abbrev pub is_left_out_kind : List ℕ → Bool
+is_left_out_kind kind =
+    bytes_eq kind (codes "header_stack") || bytes_eq kind (codes "stack") || bytes_eq kind (codes "stack_field") || bytes_eq kind (codes "header_union") || bytes_eq kind (codes "union")
+    || bytes_eq kind (codes "union_stack") || bytes_eq kind (codes "union_stack_field") || bytes_eq kind (codes "header_union_stack") || bytes_eq kind (codes "register_array") || bytes_eq kind (codes "register")
+    || bytes_eq kind (codes "meter_array") || bytes_eq kind (codes "extern") || bytes_eq kind (codes "lookahead")
+
+-- the kind of a value, by its `type`
+unfoldable pub value_kind : List ℕ → ValueKind
+value_kind kind =
+    if bytes_eq kind (codes "field") then kinds.Field
+    else if bytes_eq kind (codes "hexstr") then kinds.Literal
+    else if bytes_eq kind (codes "bool") then kinds.Truth
+    else if bytes_eq kind (codes "runtime_data") || bytes_eq kind (codes "local") then kinds.Datum
+    else if bytes_eq kind (codes "expression") then kinds.Expression
+    else if bytes_eq kind (codes "header") then kinds.Header
+    else if bytes_eq kind (codes "regular") then kinds.Regular
+    else if bytes_eq kind (codes "counter_array") then kinds.CounterArray
+    else if bytes_eq kind (codes "learn_list") then kinds.LearnList
+    else if is_left_out_kind kind then kinds.LeftOut
+    else kinds.Other
+
+abbrev pub sum_operator : List ℕ → Option Operator
+sum_operator op =
+    if bytes_eq op (codes "+") then Some operators.Add
+    else if bytes_eq op (codes "-") then Some operators.Subtract
+    else if bytes_eq op (codes "*") then Some operators.Multiply
+    else if bytes_eq op (codes "<<") then Some operators.ShiftLeft
+    else if bytes_eq op (codes ">>") then Some operators.ShiftRight
+    else None
+
+abbrev pub bit_operator : List ℕ → Option Operator
+bit_operator op =
+    if bytes_eq op (codes "&") then Some operators.BitAnd
+    else if bytes_eq op (codes "|") then Some operators.BitOr
+    else if bytes_eq op (codes "^") then Some operators.BitXor
+    else if bytes_eq op (codes "~") then Some operators.BitNot
+    else None
+
+abbrev pub comparison : List ℕ → Option Operator
+comparison op =
+    if bytes_eq op (codes "==") then Some operators.Equal
+    else if bytes_eq op (codes "!=") then Some operators.NotEqual
+    else if bytes_eq op (codes "<") then Some operators.Less
+    else if bytes_eq op (codes "<=") then Some operators.LessOrEqual
+    else if bytes_eq op (codes ">") then Some operators.Greater
+    else if bytes_eq op (codes ">=") then Some operators.GreaterOrEqual
+    else None
+
+abbrev pub logic_operator : List ℕ → Option Operator
+logic_operator op =
+    if bytes_eq op (codes "and") then Some operators.And
+    else if bytes_eq op (codes "or") then Some operators.Or
+    else if bytes_eq op (codes "not") then Some operators.Not
+    else if bytes_eq op (codes "d2b") then Some operators.ToTruth
+    else if bytes_eq op (codes "b2d") then Some operators.ToNumber
+    else if bytes_eq op (codes "valid") then Some operators.Valid
+    else if bytes_eq op (codes "?") then Some operators.Choose
+    else None
+
+abbrev pub or_else : {A : Type 0} → Option A → Option A → Option A
+or_else None other = other
+or_else (Some x) other = Some x
+
+-- the operator of a name, if it is one that is served
+unfoldable pub operator_of : List ℕ → Option Operator
+operator_of op = or_else (sum_operator op) (or_else (bit_operator op) (or_else (comparison op) (logic_operator op)))
+
+-- saturating casts, signed numbers, and the operators of stacks and unions
+unfoldable pub is_left_out_operator : List ℕ → Bool
+is_left_out_operator op =
+    bytes_eq op (codes "sat_cast") || bytes_eq op (codes "usat_cast") || bytes_eq op (codes "two_comp_mod") || bytes_eq op (codes "dereference_header_stack") || bytes_eq op (codes "dereference_union_stack")
+    || bytes_eq op (codes "last_stack_index") || bytes_eq op (codes "size_stack") || bytes_eq op (codes "access_field") || bytes_eq op (codes "access_union_header") || bytes_eq op (codes "valid_union")
+
+-- how many operands an operator has
+abbrev pub arity_of : Operator → Arity
+arity_of operators.BitNot = arities.Unary
+arity_of operators.Not = arities.Unary
+arity_of operators.ToTruth = arities.Unary
+arity_of operators.ToNumber = arities.Unary
+arity_of operators.Valid = arities.OfHeader
+arity_of operators.Choose = arities.Choice
+arity_of _ = arities.Binary

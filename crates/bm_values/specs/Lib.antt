@@ -1,0 +1,4 @@
+pub mod Literals
+pub mod Kinds
+pub mod Values
+pub mod Expressions

@@ -1,0 +1,8 @@
+//! Values of a program in BMv2's JSON form: fields, headers, literals, widths and expressions.
+#![tactic(auto)]
+
+mod expressions;
+pub mod kinds;
+pub mod literals;
+pub mod raw;
+pub mod values;

@@ -1,0 +1,118 @@
+//! Literals and widths.
+ghost use Rattle.std.specs.Prelude.{◌≡◌, ◌<◌, ◌≤◌, length, IfSome};
+ghost use Rattle.serde_json.specs.View.{view};
+ghost use Rattle.json_shapes.specs.Shapes.{Reads};
+ghost use Rattle.bm_values.specs.Literals.{hex_digit, hex_number, are_hex_digits, hex_literal, literal_text, literal_of, width_in, width_of};
+
+use crate::raw::{Part, RawLiteral, RawWidth};
+use json_shapes::ShapeError;
+use json_shapes::shapes::FromJson;
+use serde_json::Value;
+use std::alloc::Global;
+
+fn hex_digit(byte: u8) -> Option<u8>
+    ensures digit { result ≡ hex_digit byte }
+    ensures small { IfSome result (λ digit. digit < 16) }
+{
+    match byte {
+        b'0'..=b'9' => Some(byte - b'0'),
+        b'a'..=b'f' => Some(byte - b'a' + 10),
+        b'A'..=b'F' => Some(byte - b'A' + 10),
+        _ => None,
+    }
+}
+
+fn hex_number(digits: &[u8]) -> Option<u128>
+    requires { length digits.now ≤ 32 }
+    ensures { result ≡ hex_number 0 digits.now }
+{
+    let mut number = 0u128;
+    for byte in digits {
+        match hex_digit(*byte) {
+            Some(digit) => number = number * 16 + u128::from(digit),
+            None => return None,
+        }
+    }
+    Some(number)
+}
+
+fn are_hex_digits(digits: &[u8]) -> bool
+    ensures { result ≡ are_hex_digits digits.now }
+{
+    digits.iter().all(|byte| hex_digit(*byte).is_some())
+}
+
+fn hex_literal(digits: &[u8]) -> Option<RawLiteral>
+    ensures { result ≡ hex_literal digits.now }
+{
+    if digits.is_empty() {
+        return None;
+    }
+    if digits.len() > 32 {
+        if are_hex_digits(digits) {
+            return Some(Part::LeftOut);
+        }
+        return None;
+    }
+    match hex_number(digits) {
+        Some(number) => Some(Part::Served(number)),
+        None => None,
+    }
+}
+
+/// The literal that the bytes of a text are: `0x` and at least one hex digit of either case.
+pub fn literal_text(text: &[u8]) -> Option<RawLiteral>
+    ensures { result ≡ literal_text text.now }
+{
+    match text {
+        [b'0', b'x', digits @ ..] => hex_literal(digits),
+        _ => None,
+    }
+}
+
+impl FromJson for RawLiteral {
+    ghost shape = { literal_of };
+
+    fn from_json(_alloc: Global, value: &Value) -> Result<RawLiteral, ShapeError> {
+        let Some(text) = value.as_str() else {
+            return Err(ShapeError::Shape);
+        };
+        match literal_text(text.as_bytes()) {
+            Some(literal) => Ok(literal),
+            None => Err(ShapeError::Shape),
+        }
+    }
+}
+
+fn width_in(bits: u64) -> Option<RawWidth>
+    ensures { result ≡ width_in bits }
+{
+    if bits == 0 {
+        None
+    } else if bits <= 128 {
+        Some(Part::Served(bits as u32))
+    } else {
+        Some(Part::LeftOut)
+    }
+}
+
+impl FromJson for RawWidth {
+    ghost shape = { width_of };
+
+    fn from_json(_alloc: Global, value: &Value) -> Result<RawWidth, ShapeError> {
+        if let Some(text) = value.as_str() {
+            return if text == "*" {
+                Ok(Part::LeftOut)
+            } else {
+                Err(ShapeError::Shape)
+            };
+        }
+        let Some(bits) = value.as_u64() else {
+            return Err(ShapeError::Shape);
+        };
+        match width_in(bits) {
+            Some(width) => Ok(width),
+            None => Err(ShapeError::Shape),
+        }
+    }
+}

@@ -1,0 +1,89 @@
+//! Values with a type, and pairs of names.
+ghost use Rattle.std.specs.Prelude.{◌≡◌};
+ghost use Rattle.serde_json.specs.View.{view};
+ghost use Rattle.json_shapes.specs.Shapes.{Reads};
+ghost use Rattle.bm_values.specs.Values.{field_name, kind_of, field_by, field_value, header_by, header_value};
+
+use crate::kinds::{self, ValueKind};
+use crate::raw::{FieldName, Part, RawField};
+use json_shapes::shapes::{self, FromJson};
+use json_shapes::{ShapeError, arrays};
+use p4_types::list::Text;
+use serde_json::Value;
+use std::alloc::Global;
+
+impl FromJson for FieldName {
+    ghost shape = { field_name };
+
+    #[tactic(auto, unfolding(crate::specs::Values::field_name))]
+    fn from_json(alloc: Global, value: &Value) -> Result<FieldName, ShapeError> {
+        if arrays::item_count(value)? != 2 {
+            return Err(ShapeError::Shape);
+        }
+        let header = arrays::item_at(alloc, value, 0)?;
+        let field = arrays::item_at(alloc, value, 1)?;
+        Ok(FieldName { header, field })
+    }
+}
+
+/// The kind of a value with a type; without one, or where it is no text, it is of another shape.
+#[tactic(auto, unfolding(crate::specs::Values::kind_of, json_shapes::specs::Shapes::required))]
+pub fn kind_of(value: &Value) -> Result<ValueKind, ShapeError>
+    ensures { Reads result (kind_of (view value.now)) }
+{
+    let Some(inside) = value.get("type") else {
+        return Err(ShapeError::Shape);
+    };
+    match inside.as_str() {
+        Some(kind) => Ok(kinds::value_kind(kind)),
+        None => Err(ShapeError::Shape),
+    }
+}
+
+fn field_by(alloc: Global, kind: ValueKind, value: &Value) -> Result<RawField, ShapeError>
+    ensures { Reads result (field_by kind (view value.now)) }
+{
+    match kind {
+        ValueKind::Field => {
+            let field = shapes::required(alloc, value, "value")?;
+            Ok(Part::Served(field))
+        }
+        ValueKind::LeftOut => Ok(Part::LeftOut),
+        _ => Err(ShapeError::Shape),
+    }
+}
+
+/// A value that is a field.
+impl FromJson for RawField {
+    ghost shape = { field_value };
+
+    #[tactic(auto, unfolding(crate::specs::Values::field_value))]
+    fn from_json(alloc: Global, value: &Value) -> Result<RawField, ShapeError> {
+        let kind = kind_of(value)?;
+        field_by(alloc, kind, value)
+    }
+}
+
+fn header_by(alloc: Global, kind: ValueKind, value: &Value) -> Result<Part<Text>, ShapeError>
+    ensures { Reads result (header_by kind (view value.now)) }
+{
+    match kind {
+        ValueKind::Header => {
+            let name = shapes::required(alloc, value, "value")?;
+            Ok(Part::Served(name))
+        }
+        ValueKind::LeftOut => Ok(Part::LeftOut),
+        _ => Err(ShapeError::Shape),
+    }
+}
+
+/// A value that is a header.
+impl FromJson for Part<Text> {
+    ghost shape = { header_value };
+
+    #[tactic(auto, unfolding(crate::specs::Values::header_value))]
+    fn from_json(alloc: Global, value: &Value) -> Result<Part<Text>, ShapeError> {
+        let kind = kind_of(value)?;
+        header_by(alloc, kind, value)
+    }
+}

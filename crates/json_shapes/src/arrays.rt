@@ -1,0 +1,61 @@
+//! Arrays of a known number of items.
+ghost use Rattle.std.specs.Prelude.{◌≡◌, Some};
+ghost use Rattle.serde_json.specs.View.{view};
+ghost use Rattle.json_shapes.specs.Shapes.{Reads};
+ghost use Rattle.json_shapes.specs.Arrays.{item_count, item_at, of_count, only_of};
+
+use crate::errors::ShapeError;
+use crate::shapes::FromJson;
+use serde_json::Value;
+use std::alloc::Global;
+
+/// How many items an array has.
+#[tactic(auto, unfolding(crate::specs::Arrays::item_count), using(crate::proofs::Counts::count_of_view))]
+pub fn item_count(value: &Value) -> Result<usize, ShapeError>
+    ensures { Reads result (item_count (view value.now)) }
+{
+    match value.as_array() {
+        Some(items) => Ok(items.len()),
+        None => Err(ShapeError::Shape),
+    }
+}
+
+/// An item of an array.
+#[tactic(auto, unfolding(crate::specs::Arrays::item_at))]
+pub fn item_at<T: FromJson>(alloc: Global, value: &Value, place: usize) -> Result<T, ShapeError>
+    ensures { Reads result (item_at T.shape place (view value.now)) }
+{
+    match value.get(place) {
+        Some(item) => T::from_json(alloc, item),
+        None => Err(ShapeError::Shape),
+    }
+}
+
+/// Refuses another number of items than is wanted.
+pub fn of_count(wanted: usize, count: usize) -> Result<(), ShapeError>
+    ensures { Reads result (of_count wanted count (Some tt)) }
+{
+    if count == wanted {
+        Ok(())
+    } else {
+        Err(ShapeError::Shape)
+    }
+}
+
+/// The one item of an array.
+#[derive(Drop)]
+pub struct Only<T> {
+    pub only: T,
+}
+
+impl<T: FromJson> FromJson for Only<T> {
+    ghost shape = { only_of T.shape };
+
+    #[tactic(auto, unfolding(crate::specs::Arrays::only_of))]
+    fn from_json(alloc: Global, value: &Value) -> Result<Only<T>, ShapeError> {
+        let count = item_count(value)?;
+        of_count(1, count)?;
+        let only = item_at(alloc, value, 0)?;
+        Ok(Only { only })
+    }
+}
