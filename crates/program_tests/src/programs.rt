@@ -197,8 +197,21 @@ const OTHER_SHAPES: [(&str, &str, &str, &str); 15] = [
     ),
 ];
 
-// Members that may be missing, and forms that are left out.
-const LEFT_OUT: [(&str, &str, &str, &str); 14] = [
+// Two further forms of the router (a parser that loops, no counter), members that may be missing, and forms that are
+// left out.
+const LEFT_OUT: [(&str, &str, &str, &str); 16] = [
+    (
+        "router",
+        "\"mask\":null,\"next_state\":null}]}]}]",
+        "\"mask\":null,\"next_state\":\"start\"}]}]}]",
+        "ok",
+    ),
+    (
+        "router",
+        "[{\"name\":\"ipv4_lpm_hits\",\"id\":0,\"is_direct\":true,\"binding\":\"ipv4_lpm\"}]",
+        "[]",
+        "ok",
+    ),
     ("router", "\"errors\"", "\"no_errors\"", "ok"),
     ("router", "\"calculations\"", "\"no_calculations\"", "ok"),
     ("router", "\"verify\"", "\"no_verify\"", "ok"),
