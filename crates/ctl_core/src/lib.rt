@@ -3,6 +3,7 @@
 
 mod calls;
 mod control;
+mod lists;
 mod messages;
 mod packets;
 mod prepared;

@@ -5,6 +5,7 @@ ghost use Rattle.switch_spec.specs.Answer.{own_error, batch_errors};
 ghost use Rattle.ctl_core.specs.Messages.{batch_error};
 ghost use Rattle.switch_spec.specs.Status.{status_bytes, error_bytes, aborted_bytes, value_fields, detail_bytes, write_status, capabilities_bytes};
 
+use crate::lists::only;
 use p4_types::code::{Cause, Code, NoMemory};
 use p4_types::list::{ByteList, List};
 use p4_types::table::Change;
@@ -135,15 +136,6 @@ pub(crate) fn of_batch(
         failed = failed || outcome.is_err();
     }
     Ok(List::from_vec(writer.finish()))
-}
-
-/// One message.
-pub(crate) fn only(alloc: Global, message: ByteList) -> Result<List<ByteList>, NoMemory>
-    ensures { IfOk result (λ messages. messages ≡ message ∷ []) }
-{
-    let mut messages = List::new(alloc);
-    messages.push(message)?;
-    Ok(messages)
 }
 
 /// The Status of a code alone.

@@ -7,6 +7,7 @@ ghost use Rattle.switch_spec.specs.Bridge.{bridge_table};
 ghost use Rattle.ctl_core.specs.Packets.{verdict_of, sent_by, acted_by, forwarded_by};
 ghost use Rattle.control_state.specs.Whole.{control_in};
 
+use crate::lists::only;
 use control_state::{Program, State, Written};
 use p4_types::code::NoMemory;
 use p4_types::list::{ByteList, List};
@@ -56,14 +57,6 @@ fn copied(alloc: Global, packet: &[u8]) -> Result<ByteList, NoMemory>
     ensures { IfOk result (λ bytes. bytes ≡ packet.now) }
 {
     Ok(List::from_vec(Vec::from_slice(alloc, packet)?))
-}
-
-fn only<T: Drop>(alloc: Global, item: T) -> Result<List<T>, NoMemory>
-    ensures { IfOk result (λ list. list ≡ item ∷ []) }
-{
-    let mut list = List::new(alloc);
-    list.push(item)?;
-    Ok(list)
 }
 
 // A PacketIn of the bridge, which has no metadata.

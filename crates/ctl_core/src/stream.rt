@@ -6,6 +6,7 @@ ghost use Rattle.ctl_core.specs.Prepared.{IsPrepared, ChangesNothing, Leads};
 ghost use Rattle.control_state.specs.Whole.{control_in};
 
 use crate::calls::bare;
+use crate::lists::only;
 use crate::prepared::{Draft, Prepared};
 use control_state::State;
 use p4_types::calls::Notice;
@@ -108,14 +109,6 @@ fn unserved(alloc: Global) -> Result<StreamError, NoMemory>
         code: 0,
         details: Some(StreamErrorDetails::Other(other)),
     })
-}
-
-fn only<T: Drop>(alloc: Global, item: T) -> Result<List<T>, NoMemory>
-    ensures { IfOk result (λ list. list ≡ item ∷ []) }
-{
-    let mut list = List::new(alloc);
-    list.push(item)?;
-    Ok(list)
 }
 
 // The caller is told that its message is not served.

@@ -6,6 +6,7 @@ ghost use Rattle.p4_types.specs.declared.events.Event.TheVariants as events;
 ghost use Rattle.switch_spec.specs.Answer.{is_atomicity, is_atomic, has_failed, batch, continued, all_or_nothing};
 ghost use Rattle.ctl_core.specs.Prepared.{IsPrepared};
 
+use crate::lists::only;
 use crate::messages;
 use crate::prepared::{Draft, Prepared};
 use p4_types::code::{Cause, Code, NoMemory};
@@ -88,7 +89,7 @@ fn batch(alloc: Global, by: Origin, changes: List<Change>) -> Result<List<Event>
 pub(crate) fn empty_message(alloc: Global) -> Result<List<ByteList>, NoMemory>
     ensures { IfOk result (λ list. list ≡ [] ∷ []) }
 {
-    messages::only(alloc, List::new(alloc))
+    only(alloc, List::new(alloc))
 }
 
 // What a list answers whose updates are judged one by one.
@@ -107,7 +108,7 @@ fn continued(alloc: Global, by: Origin, outcomes: Outcomes) -> Result<Prepared, 
     let status = messages::of_continued(alloc, outcomes.as_slice())?;
     Ok(Prepared {
         code: Code::Unknown,
-        messages: messages::only(alloc, status)?,
+        messages: only(alloc, status)?,
         events: steps(alloc, by, changes(alloc, outcomes)?)?,
         notices: List::new(alloc),
         draft: Draft::Nothing,
@@ -130,7 +131,7 @@ fn all_or_nothing(alloc: Global, by: Origin, outcomes: Outcomes) -> Result<Prepa
     let status = messages::of_batch(alloc, outcomes.as_slice())?;
     Ok(Prepared {
         code: Code::Unknown,
-        messages: messages::only(alloc, status)?,
+        messages: only(alloc, status)?,
         events: List::new(alloc),
         notices: List::new(alloc),
         draft: Draft::Nothing,
