@@ -1,2 +1,4 @@
+pub mod Drafting
 pub mod Numbering
+pub mod Rises
 pub mod Tables

@@ -9,7 +9,7 @@ use Rattle.p4_types.specs.declared.table.EntryChange.{EntryChange}
 use Rattle.p4_types.specs.declared.table.EntryName.{EntryName}
 use Rattle.p4_types.specs.declared.table.Room.{Room}
 use Rattle.switch_spec.specs.Entries.{is_full, table_size, entry_named, is_counted, slots_drawn, insert_cause, new_entry, next_number, inserted, modified, deleted, with_change, same_name}
-use Rattle.control_state.specs.State.{Written, IsNumbered, room_in, with_insert}
+use Rattle.control_state.specs.State.{Written, IsNumbered, room_in, with_insert, with_list}
 
 -- a number is left, and a slot where one is drawn
 pub record HasLeft (w : Written) (table : Table) : Type 0 where
@@ -107,10 +107,6 @@ kept_after w table rows room change entries slots h is none entries_are slots_ar
     let P : List Entry → Type 0 = λ list. IsNumbered (record { entries = list; changed = w.changed; next = w.next + 1; next_slot = w.next_slot + slots_drawn table }) in
     let Q : ℕ → Type 0 = λ n. IsNumbered (record { entries = entries; changed = w.changed; next = w.next + 1; next_slot = w.next_slot + n }) in
     subst Q (sym slots_are) (subst P (sym (entries_are ∙ ap (λ r. inserted (new_entry table r change) w.entries) is)) (insert_numbered w table rows change h left))
-
--- the same with other entries
-abbrev pub with_list : Written → List Entry → Written
-with_list w entries = record { entries = entries; changed = w.changed; next = w.next; next_slot = w.next_slot }
 
 same_numbered : (w : Written) (entries others : List Entry) → entries ≡ others → IsNumbered (with_list w others) → IsNumbered (with_list w entries)
 same_numbered w entries others is h = let P : List Entry → Type 0 = λ list. IsNumbered (with_list w list) in subst P (sym is) h

@@ -1,5 +1,5 @@
 -- The control state, as what calls leave, what Writes change, and who may write.
-use Rattle.std.specs.Prelude.{ℕ, ◌<◌, ◌≤◌, ◌+◌, ◌-◌, ◌^◌, false, if◌then◌else◌, List, length, map, All, Option, Some, None, Result}
+use Rattle.std.specs.Prelude.{◌≡◌, ℕ, ◌<◌, ◌≤◌, ◌+◌, ◌-◌, ◌^◌, false, if◌then◌else◌, List, length, map, All, Option, Some, None, Result}
 use Rattle.p4_types.specs.declared.code.Code.{Code}
 use Rattle.p4_types.specs.declared.messages.Entity.{Entity}
 use Rattle.switch_spec.specs.Reading.{read_unless, first_of, entity_refusal}
@@ -15,8 +15,7 @@ use Rattle.p4_types.specs.declared.events.Start.{Start}
 use Rattle.switch_spec.specs.Bridge.{bridge_info, bridge_defaults}
 use Rattle.role_arbiter.specs.State.{RolesState}
 use Rattle.switch_spec.specs.Control.{Control, Plane}
-use Rattle.table_store.specs.declared.error.StoreError.{StoreError}
-use Rattle.table_store.specs.declared.error.StoreError.TheVariants as errors
+use Rattle.table_store.specs.Rising.{AreRising}
 
 -- what writes change
 pub record Written : Type 0 where
@@ -40,6 +39,30 @@ pub record IsNumbered (w : Written) : Type 0 where
   pub numbers : w.next ≤ 2 ^ 64 - 1
   pub slots : w.next_slot ≤ 1048576
 
+-- with other entries
+abbrev pub with_list : Written → List Entry → Written
+with_list w entries = record { entries = entries; changed = w.changed; next = w.next; next_slot = w.next_slot }
+
+-- what is written, and what was written before the updates of a draft
+pub record Drafted : Type 0 where
+  pub written : Written
+  pub before : Written
+
+-- numbered, with the changed default actions by rising table id
+pub record IsSound (w : Written) : Type 0 where
+  pub numbered : IsNumbered w
+  pub rising : AreRising (λ d. d.table) w.changed
+
+-- sound, and there are no changes of default actions to be undone
+pub record IsWritten (w : Written) (changed_before : List DefaultAction) : Type 0 where
+  pub sound : IsSound w
+  pub settled : changed_before ≡ w.changed
+
+-- sound before and after
+pub record IsDraft (d : Drafted) : Type 0 where
+  pub sound : IsSound d.written
+  pub before : IsSound d.before
+
 -- what is left to be drawn
 abbrev pub room_in : ℕ → Written → Room
 room_in rows w = record { rows = rows - length w.entries; slots = 1048576 - w.next_slot; numbers = 2 ^ 64 - 1 - w.next }
@@ -51,11 +74,6 @@ with_insert table rows change w = record w {
   next = w.next + 1;
   next_slot = w.next_slot + slots_drawn table;
 }
-
--- an error that is no want of memory
-abbrev pub IsRefusal : StoreError → Type 0
-IsRefusal errors.NoMemory = ⊥
-IsRefusal (errors.Refused cause) = Unit {0}
 
 -- the program of a switch that starts
 abbrev pub program_of : Start → Option Program

@@ -2,10 +2,13 @@
 //! write.
 #![tactic(auto)]
 
+mod defaults;
+mod draft;
 mod fixed;
 mod state;
 mod written;
 
+pub use draft::Draft;
 pub use fixed::{Fixed, Program};
 pub use state::State;
 pub use written::Written;

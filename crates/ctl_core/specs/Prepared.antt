@@ -2,12 +2,12 @@
 use Rattle.std.specs.Prelude.{◌≡◌, List, [], ◌∷◌, None}
 use Rattle.p4_types.specs.declared.events.Event.{Event}
 use Rattle.switch_spec.specs.Answer.{Answer}
-use Rattle.switch_spec.specs.Control.{applied}
+use Rattle.switch_spec.specs.Control.{Control, applied}
 use Rattle.ctl_core.specs.declared.prepared.Prepared.{Prepared}
-use Rattle.ctl_core.specs.declared.prepared.Draft.{Draft}
-use Rattle.ctl_core.specs.declared.prepared.Draft.TheVariants as drafts
+use Rattle.ctl_core.specs.declared.prepared.Effect.{Effect}
+use Rattle.ctl_core.specs.declared.prepared.Effect.TheVariants as effects
 use Rattle.control_state.specs.declared.state.State.{State}
-use Rattle.control_state.specs.State.{Written, control_of}
+use Rattle.control_state.specs.State.{Drafted, control_of}
 use Rattle.control_state.specs.Whole.{control_in}
 
 -- it is this answer, without a packet
@@ -20,19 +20,25 @@ pub record IsPrepared (a : Answer) (p : Prepared) : Type 0 where
 
 -- it has no events and changes nothing
 abbrev pub ChangesNothing : Prepared → Type 0
-ChangesNothing p = (p.events ≡ []) × (p.draft ≡ drafts.Nothing)
+ChangesNothing p = (p.events ≡ []) × (p.effect ≡ effects.Nothing)
 
 -- the answer that it is
 abbrev pub answer_of : Prepared → Answer
 answer_of p = record { code = p.code; messages = p.messages; notices = p.notices; events = p.events; packet = None }
 
--- the events lead to the state with the draft, or there are none
-abbrev pub Leads : State → List Event → Draft → Type 0
-Leads s list drafts.Nothing = list ≡ []
-Leads s list (drafts.Written w) = control_of s.fixed w s.roles ≡ applied (control_in s) list
-Leads s list (drafts.Roles r) = control_of s.fixed s.written r ≡ applied (control_in s) list
+-- the control state before what the effect wrote
+abbrev pub control_before : State → Effect → Control
+control_before s effects.Nothing = control_in s
+control_before s (effects.Written d) = control_of s.fixed d.before s.roles
+control_before s (effects.Roles r) = control_in s
+
+-- the events lead to the state with the effect, or there are none
+abbrev pub Leads : State → List Event → Effect → Type 0
+Leads s list effects.Nothing = list ≡ []
+Leads s list (effects.Written d) = control_of s.fixed d.written s.roles ≡ applied (control_of s.fixed d.before s.roles) list
+Leads s list (effects.Roles r) = control_of s.fixed s.written r ≡ applied (control_in s) list
 
 -- what is written, unless there are no events
-abbrev pub draft_unless : List Event → Written → Draft
-draft_unless [] w = drafts.Nothing
-draft_unless (event ∷ list) w = drafts.Written w
+abbrev pub effect_unless : List Event → Drafted → Effect
+effect_unless [] d = effects.Nothing
+effect_unless (event ∷ list) d = effects.Written d

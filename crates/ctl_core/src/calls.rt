@@ -1,22 +1,26 @@
 //! The answers to calls, before they take effect.
-ghost use Rattle.std.specs.Prelude.{◌≡◌, ◌≤◌, ◌∷◌, [], false, length, IfOk};
-ghost use Rattle.switch_spec.specs.Answer.{write_refusal, write_answer, origin, unreadable, plain, failed, read_reply, answer_to, state_after, outcomes};
+ghost use Rattle.std.specs.Prelude.{◌≡◌, ◌≤◌, ◌∷◌, [], false, length, IfOk, OnErr};
+ghost use Rattle.switch_spec.specs.Answer.{write_refusal, write_answer, written, unreadable, plain, failed, read_reply, answer_to, outcomes};
 ghost use Rattle.switch_spec.specs.Status.{capabilities_bytes};
 ghost use Rattle.switch_spec.specs.Control.{same_id, primary, bears, Legal};
 ghost use Rattle.switch_spec.specs.History.{is_unavailable};
 ghost use Rattle.switch_spec.specs.Reading.{read_result};
-ghost use Rattle.ctl_core.specs.Prepared.{IsPrepared, ChangesNothing, Leads, draft_unless};
+ghost use Rattle.ctl_core.specs.Prepared.{IsPrepared, ChangesNothing, Leads, control_before, effect_unless};
+ghost use Rattle.control_state.specs.State.{control_of};
+ghost use Rattle.control_state.specs.declared.state.State.{State};
 ghost use Rattle.control_state.specs.Whole.{control_in};
 
-use crate::prepared::{Draft, Prepared};
+use crate::prepared::{Effect, Prepared};
 use crate::{messages, stream, writes};
-use control_state::{State, Written};
+use control_state::{Draft, Fixed, State, Written};
 use p4_types::calls::Call;
 use p4_types::code::{Code, NoMemory};
-use p4_types::events::Origin;
+use p4_types::events::{Event, Origin};
 use p4_types::list::{ByteList, List};
 use p4_types::messages::{ReadRequest, Uint128, WriteRequest};
+use role_arbiter::Roles;
 use std::alloc::Global;
+use std::mem;
 
 /// How many updates a Write may have.
 const UPDATES: usize = 4_096;
@@ -70,36 +74,57 @@ fn failure(alloc: Global, code: Code) -> Result<Prepared, NoMemory>
         messages: messages::of_code(alloc, code)?,
         notices: List::new(alloc),
         events: List::new(alloc),
-        draft: Draft::Nothing,
+        effect: Effect::Nothing,
     })
 }
 
-// The answer with what is written, which is let go where there are no events.
-fn with_draft(answer: Prepared, draft: Written) -> Prepared
-    ensures { result ≡ record answer { draft = draft_unless answer.events draft } }
+// What the updates of a Write answer, which are made on a draft.
+fn updated(
+    alloc: Global,
+    fixed: &Fixed,
+    roles: &Roles,
+    draft: &mut Draft,
+    by: Origin,
+    request: &WriteRequest,
+) -> Result<Prepared, NoMemory>
+    ensures answer { IfOk result (λ p. IsPrepared (written request.now.atomicity by (outcomes (control_of fixed.now draft.old.written roles.now) request.now.role_id request.now.updates)) p) }
+    ensures leads { IfOk result (λ p. (s : State) → s.fixed ≡ fixed.now → s.roles ≡ roles.now → draft.old.written ≡ draft.old.before → Leads s p.events (effect_unless p.events draft.new)) }
+    ensures before { draft.new.before ≡ draft.old.before }
 {
-    let draft = match answer.events.as_slice() {
-        [] => Draft::Nothing,
-        _ => Draft::Written(draft),
-    };
-    Prepared {
-        code: answer.code,
-        messages: answer.messages,
-        notices: answer.notices,
-        events: answer.events,
-        draft,
+    let role = request.role_id;
+    let outcomes = draft.updates(alloc, fixed, roles, role, request.updates.as_slice())?;
+    let atomic = writes::is_atomic(request.atomicity);
+    let answer = writes::written(alloc, atomic, by, outcomes)?;
+    Ok(answer)
+}
+
+// The effect of these events: what is written, or nothing where there are none. Then the updates are undone.
+fn effect(state: &mut State, events: &[Event], draft: Draft) -> Effect
+    ensures effect { result ≡ effect_unless events.now draft }
+    ensures before { control_before state.new result ≡ control_of state.old.fixed draft.before state.old.roles }
+    ensures fixed { state.new.fixed ≡ state.old.fixed }
+    ensures roles { state.new.roles ≡ state.old.roles }
+{
+    match events {
+        [] => {
+            state.written = draft.undo();
+            Effect::Nothing
+        }
+        _ => Effect::Written(draft),
     }
 }
 
 fn write(
     alloc: Global,
-    state: &State,
+    state: &mut State,
     lane: u16,
     call: u32,
     request: &WriteRequest,
 ) -> Result<Prepared, NoMemory>
-    ensures prepared { IfOk result (λ p. IsPrepared (write_answer (control_in state.now) lane call request.now) p) }
-    ensures leads { IfOk result (λ p. Leads state.now p.events p.draft) }
+    ensures prepared { IfOk result (λ p. IsPrepared (write_answer (control_in state.old) lane call request.now) p) }
+    ensures leads { IfOk result (λ p. Leads state.new p.events p.effect) }
+    ensures before { IfOk result (λ p. control_before state.new p.effect ≡ control_in state.old) }
+    ensures kept { OnErr result (control_in state.new ≡ control_in state.old) }
 {
     if let Some(code) = write_refusal(state, request) {
         return failure(alloc, code);
@@ -110,17 +135,18 @@ fn write(
         role: request.role_id,
         election_id: request.election_id,
     };
-    let mut draft = state.written.duplicate(alloc)?;
-    let outcomes = draft.updates(
-        alloc,
-        &state.fixed,
-        &state.roles,
-        request.role_id,
-        request.updates.as_slice(),
-    )?;
-    let atomic = writes::is_atomic(request.atomicity);
-    let answer = writes::written(alloc, atomic, by, outcomes)?;
-    Ok(with_draft(answer, draft))
+    let written = mem::replace(&mut state.written, Written::open(alloc));
+    let mut draft = written.draft(alloc);
+    match updated(alloc, &state.fixed, &state.roles, &mut draft, by, request) {
+        Ok(mut prepared) => {
+            prepared.effect = effect(state, prepared.events.as_slice(), draft);
+            Ok(prepared)
+        }
+        Err(NoMemory) => {
+            state.written = draft.undo();
+            Err(NoMemory)
+        }
+    }
 }
 
 // What a Read selects, or the code with which it is refused.
@@ -153,7 +179,7 @@ fn read_reply(alloc: Global, answer: Result<List<ByteList>, Code>) -> Result<Pre
             messages,
             notices: List::new(alloc),
             events: List::new(alloc),
-            draft: Draft::Nothing,
+            effect: Effect::Nothing,
         }),
         Err(code) => failure(alloc, code),
     }
@@ -180,7 +206,7 @@ pub(crate) fn bare(alloc: Global, code: Code) -> Prepared
         messages: List::new(alloc),
         notices: List::new(alloc),
         events: List::new(alloc),
-        draft: Draft::Nothing,
+        effect: Effect::Nothing,
     }
 }
 
@@ -193,20 +219,22 @@ fn capabilities(alloc: Global) -> Result<Prepared, NoMemory>
         messages: messages::of_capabilities(alloc)?,
         notices: List::new(alloc),
         events: List::new(alloc),
-        draft: Draft::Nothing,
+        effect: Effect::Nothing,
     })
 }
 
 // The answer to a lane's call.
 fn answer(
     alloc: Global,
-    state: &State,
+    state: &mut State,
     lane: u16,
     number: u32,
     call: &Call,
 ) -> Result<Prepared, NoMemory>
-    ensures prepared { IfOk result (λ p. IsPrepared (answer_to (control_in state.now) lane number call.now) p) }
-    ensures leads { IfOk result (λ p. Leads state.now p.events p.draft) }
+    ensures prepared { IfOk result (λ p. IsPrepared (answer_to (control_in state.old) lane number call.now) p) }
+    ensures leads { IfOk result (λ p. Leads state.new p.events p.effect) }
+    ensures before { IfOk result (λ p. control_before state.new p.effect ≡ control_in state.old) }
+    ensures kept { OnErr result (control_in state.new ≡ control_in state.old) }
 {
     match call {
         Call::Write(request) => write(alloc, state, lane, number, request),
@@ -219,19 +247,21 @@ fn answer(
     }
 }
 
-/// The answer to a lane's call, and what will be written once it takes effect. Its events may follow.
+/// The answer to a lane's call, and its effect. Its events may follow. Without memory the state is as it was.
 pub(crate) fn prepare(
     alloc: Global,
-    state: &State,
+    state: &mut State,
     lane: u16,
     number: u32,
     call: &Call,
 ) -> Result<Prepared, NoMemory>
-    ensures prepared { IfOk result (λ p. IsPrepared (answer_to (control_in state.now) lane number call.now) p) }
-    ensures leads { IfOk result (λ p. Leads state.now p.events p.draft) }
+    ensures prepared { IfOk result (λ p. IsPrepared (answer_to (control_in state.old) lane number call.now) p) }
+    ensures leads { IfOk result (λ p. Leads state.new p.events p.effect) }
+    ensures before { IfOk result (λ p. control_before state.new p.effect ≡ control_in state.old) }
+    ensures kept { OnErr result (control_in state.new ≡ control_in state.old) }
     ensures few { IfOk result (λ p. length p.events ≤ 4096) }
     ensures available { IfOk result (λ p. is_unavailable p.code ≡ false) }
-    ensures may { IfOk result (λ p. Legal (control_in state.now) p.events) }
+    ensures may { IfOk result (λ p. Legal (control_in state.old) p.events) }
 {
     let prepared = answer(alloc, state, lane, number, call)?;
     Ok(prepared)

@@ -5,7 +5,7 @@ ghost use Rattle.p4_types.specs.declared.events.Event.{Event};
 ghost use Rattle.switch_spec.specs.Answer.{answer_to};
 ghost use Rattle.switch_spec.specs.Control.{opened, applied, Legal};
 ghost use Rattle.switch_spec.specs.History.{is_unavailable};
-ghost use Rattle.ctl_core.specs.Prepared.{Leads, answer_of};
+ghost use Rattle.ctl_core.specs.Prepared.{Leads, answer_of, control_before};
 ghost use Rattle.control_state.specs.State.{program_of};
 ghost use Rattle.control_state.specs.Whole.{control_in};
 ghost use Rattle.switch_spec.specs.Meaning.{meaning};
@@ -13,7 +13,7 @@ ghost use Rattle.ctl_core.specs.Core.{Handled, replied, without_memory};
 ghost use Rattle.ctl_core.specs.Packets.{verdict_of};
 
 use crate::packets::Verdict;
-use crate::prepared::{Draft, Prepared};
+use crate::prepared::{Effect, Prepared};
 use crate::press::Press;
 use crate::{calls, packets};
 use control_state::{Fixed, Program, State, Written};
@@ -57,14 +57,23 @@ fn without_memory(alloc: Global, steps: u64) -> Reply
     }
 }
 
-// Takes what will be written.
-fn take(state: &mut State, draft: Draft)
-    ensures { (list : spec.List Event) → Leads state.old list draft → control_in state.new ≡ applied (control_in state.old) list }
+// Makes an effect part of the state.
+fn take(state: &mut State, effect: Effect)
+    ensures { (list : spec.List Event) → Leads state.old list effect → control_in state.new ≡ applied (control_before state.old effect) list }
 {
-    match draft {
-        Draft::Nothing => {}
-        Draft::Written(written) => state.written = written,
-        Draft::Roles(roles) => state.roles = roles,
+    match effect {
+        Effect::Nothing => {}
+        Effect::Written(draft) => state.written = draft.keep(),
+        Effect::Roles(roles) => state.roles = roles,
+    }
+}
+
+// Drops an effect, and undoes what it wrote.
+fn give_back(state: &mut State, effect: Effect)
+    ensures { control_in state.new ≡ control_before state.old effect }
+{
+    if let Effect::Written(draft) = effect {
+        state.written = draft.undo();
     }
 }
 
@@ -79,17 +88,20 @@ fn complete<P: Press>(
     requires steps { steps < 2 ^ 63 }
     requires few { length prepared.events ≤ 4096 }
     requires available { is_unavailable prepared.code ≡ false }
-    requires state { P.state press.old ≡ control_in state.old }
-    requires may { Legal (control_in state.old) prepared.events }
-    requires leads { Leads state.old prepared.events prepared.draft }
-    ensures handled { Handled (control_in state.old) steps (P.given press.old) (answer_of prepared) result (control_in state.new) (P.given press.new) }
+    requires state { P.state press.old ≡ control_before state.old prepared.effect }
+    requires may { Legal (control_before state.old prepared.effect) prepared.events }
+    requires leads { Leads state.old prepared.events prepared.effect }
+    ensures handled { Handled (control_before state.old prepared.effect) steps (P.given press.old) (answer_of prepared) result (control_in state.new) (P.given press.new) }
     ensures state { P.state press.new ≡ control_in state.new }
 {
     let steps_after = steps + prepared.events.len() as u64;
     match press.push(prepared.events) {
-        Err(_) => without_memory(alloc, steps),
+        Err(_) => {
+            give_back(state, prepared.effect);
+            without_memory(alloc, steps)
+        }
         Ok(()) => {
-            take(state, prepared.draft);
+            take(state, prepared.effect);
             Reply {
                 code: prepared.code,
                 messages: prepared.messages,
@@ -181,7 +193,7 @@ impl Control {
     {
         let number = self.calls[caller as usize] + 1;
         self.calls[caller as usize] = number;
-        let prepared = calls::prepare(alloc, &self.state, caller, number, call);
+        let prepared = calls::prepare(alloc, &mut self.state, caller, number, call);
         let reply = match prepared {
             Ok(prepared) => complete(alloc, &mut self.state, self.steps, prepared, press),
             Err(NoMemory) => without_memory(alloc, self.steps),

@@ -1,5 +1,5 @@
 //! An answer before it takes effect.
-use control_state::Written;
+use control_state::Draft;
 use p4_types::calls::Notice;
 use p4_types::code::Code;
 use p4_types::events::Event;
@@ -13,13 +13,14 @@ pub(crate) struct Prepared {
     pub(crate) messages: List<ByteList>,
     pub(crate) notices: List<Notice>,
     pub(crate) events: List<Event>,
-    pub(crate) draft: Draft,
+    pub(crate) effect: Effect,
 }
 
 /// What a call changes once it takes effect.
 #[derive(Drop)]
-pub(crate) enum Draft {
+pub(crate) enum Effect {
     Nothing,
-    Written(Written),
+    /// What is written, which was taken out of the state until its updates are kept or undone.
+    Written(Draft),
     Roles(Roles),
 }

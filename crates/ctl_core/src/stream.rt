@@ -2,12 +2,12 @@
 ghost use Rattle.std.specs.Prelude.{◌≡◌, ◌∷◌, [], codes, IfOk};
 ghost use Rattle.switch_spec.specs.Answer.{plain, arbitration_answer, unserved_answer, stream_answer, leave_answer};
 ghost use Rattle.switch_spec.specs.Notices.{role_told, standing, standing_notice, standing_notices, unserved, unserved_notice};
-ghost use Rattle.ctl_core.specs.Prepared.{IsPrepared, ChangesNothing, Leads};
+ghost use Rattle.ctl_core.specs.Prepared.{IsPrepared, ChangesNothing, Leads, control_before};
 ghost use Rattle.control_state.specs.Whole.{control_in};
 
 use crate::calls::bare;
 use crate::lists::only;
-use crate::prepared::{Draft, Prepared};
+use crate::prepared::{Effect, Prepared};
 use control_state::State;
 use p4_types::calls::Notice;
 use p4_types::code::{Code, NoMemory};
@@ -122,7 +122,7 @@ fn unserved_answer(alloc: Global, lane: u16) -> Result<Prepared, NoMemory>
         messages: List::new(alloc),
         notices: only(alloc, Notice { lane, message })?,
         events: List::new(alloc),
-        draft: Draft::Nothing,
+        effect: Effect::Nothing,
     })
 }
 
@@ -148,7 +148,8 @@ fn arbitration(
     update: &MasterArbitrationUpdate,
 ) -> Result<Prepared, NoMemory>
     ensures prepared { IfOk result (λ p. IsPrepared (arbitration_answer (control_in state.now) lane call update.now) p) }
-    ensures leads { IfOk result (λ p. Leads state.now p.events p.draft) }
+    ensures leads { IfOk result (λ p. Leads state.now p.events p.effect) }
+    ensures before { IfOk result (λ p. control_before state.now p.effect ≡ control_in state.now) }
 {
     if update.device_id != state.fixed.device {
         return Ok(bare(alloc, Code::NotFound));
@@ -173,7 +174,7 @@ fn arbitration(
         messages: List::new(alloc),
         notices,
         events: only(alloc, Event::Arbitrate { by, config })?,
-        draft: Draft::Roles(roles),
+        effect: Effect::Roles(roles),
     })
 }
 
@@ -186,7 +187,8 @@ pub(crate) fn answer(
     message: &Option<StreamMessageRequest>,
 ) -> Result<Prepared, NoMemory>
     ensures prepared { IfOk result (λ p. IsPrepared (stream_answer (control_in state.now) lane call message.now) p) }
-    ensures leads { IfOk result (λ p. Leads state.now p.events p.draft) }
+    ensures leads { IfOk result (λ p. Leads state.now p.events p.effect) }
+    ensures before { IfOk result (λ p. control_before state.now p.effect ≡ control_in state.now) }
 {
     match message {
         None => Ok(bare(alloc, Code::InvalidArgument)),
@@ -207,7 +209,8 @@ pub(crate) fn leave(
     call: u32,
 ) -> Result<Prepared, NoMemory>
     ensures prepared { IfOk result (λ p. IsPrepared (leave_answer (control_in state.now) lane call) p) }
-    ensures leads { IfOk result (λ p. Leads state.now p.events p.draft) }
+    ensures leads { IfOk result (λ p. Leads state.now p.events p.effect) }
+    ensures before { IfOk result (λ p. control_before state.now p.effect ≡ control_in state.now) }
 {
     let role = match state.roles.session(lane) {
         None => return Ok(bare(alloc, Code::Ok)),
@@ -222,6 +225,6 @@ pub(crate) fn leave(
         messages: List::new(alloc),
         notices,
         events: only(alloc, Event::Leave { caller: lane, call })?,
-        draft: Draft::Roles(roles),
+        effect: Effect::Roles(roles),
     })
 }

@@ -8,7 +8,7 @@ ghost use Rattle.ctl_core.specs.Prepared.{IsPrepared};
 
 use crate::lists::only;
 use crate::messages;
-use crate::prepared::{Draft, Prepared};
+use crate::prepared::{Effect, Prepared};
 use p4_types::code::{Cause, Code, NoMemory};
 use p4_types::events::{Event, Origin};
 use p4_types::list::{ByteList, List};
@@ -102,7 +102,7 @@ fn continued(alloc: Global, by: Origin, outcomes: Outcomes) -> Result<Prepared, 
             messages: empty_message(alloc)?,
             events: steps(alloc, by, changes(alloc, outcomes)?)?,
             notices: List::new(alloc),
-            draft: Draft::Nothing,
+            effect: Effect::Nothing,
         });
     }
     let status = messages::of_continued(alloc, outcomes.as_slice())?;
@@ -111,7 +111,7 @@ fn continued(alloc: Global, by: Origin, outcomes: Outcomes) -> Result<Prepared, 
         messages: only(alloc, status)?,
         events: steps(alloc, by, changes(alloc, outcomes)?)?,
         notices: List::new(alloc),
-        draft: Draft::Nothing,
+        effect: Effect::Nothing,
     })
 }
 
@@ -125,7 +125,7 @@ fn all_or_nothing(alloc: Global, by: Origin, outcomes: Outcomes) -> Result<Prepa
             messages: empty_message(alloc)?,
             events: batch(alloc, by, changes(alloc, outcomes)?)?,
             notices: List::new(alloc),
-            draft: Draft::Nothing,
+            effect: Effect::Nothing,
         });
     }
     let status = messages::of_batch(alloc, outcomes.as_slice())?;
@@ -134,7 +134,7 @@ fn all_or_nothing(alloc: Global, by: Origin, outcomes: Outcomes) -> Result<Prepa
         messages: only(alloc, status)?,
         events: List::new(alloc),
         notices: List::new(alloc),
-        draft: Draft::Nothing,
+        effect: Effect::Nothing,
     })
 }
 

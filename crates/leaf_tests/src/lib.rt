@@ -8,6 +8,8 @@ mod byte_strings;
 #[cfg(test)]
 mod edge;
 #[cfg(test)]
+mod edits;
+#[cfg(test)]
 mod expressions;
 #[cfg(test)]
 mod fields;

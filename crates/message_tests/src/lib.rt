@@ -7,6 +7,8 @@ mod answers;
 #[cfg(test)]
 mod calls;
 #[cfg(test)]
+mod drafts;
+#[cfg(test)]
 mod infos;
 #[cfg(test)]
 mod programs;

@@ -16,7 +16,7 @@ use write_rules::{ResolveError, resolve};
 const LAST_TABLE: u32 = 0x0200_0003;
 
 // What becomes of each update; the entries of two tables; whether the first entry of the last table is there, what
-// becomes of its DELETE, whether it is there then, and in a copy from before; how many entries store and copy have.
+// becomes of its DELETE, whether it is there then, and in a store made alike; how many entries the two have.
 const STORES: [Row<'static>; 3] = [
     ("none", "08011a021001", ". . 0 0 "),
     (
@@ -71,13 +71,11 @@ fn tell_delete(told: &mut String, store: &mut TableStore, copy: &TableStore) {
     tell(told, copy.find(&entry.name).is_some());
 }
 
-fn tell_stores(alloc: Global, store: &mut TableStore, told: &mut String) -> Result<(), NoMemory> {
-    let copy = store.duplicate(alloc)?;
+fn tell_stores(store: &mut TableStore, copy: &TableStore, told: &mut String) {
     tell_tables(told, store);
-    tell_delete(told, store, &copy);
+    tell_delete(told, store, copy);
     tell(told, store.len());
     tell(told, copy.len());
-    Ok(())
 }
 
 fn told_of_store(alloc: Global, message: &[u8], told: &mut String) -> Result<(), NoMemory> {
@@ -85,8 +83,12 @@ fn told_of_store(alloc: Global, message: &[u8], told: &mut String) -> Result<(),
     let Call::Write(request) = read_call(alloc, 1, message)? else {
         return Ok(());
     };
-    let mut store = made(alloc, &info, None, request.updates.as_slice(), told)?;
-    tell_stores(alloc, &mut store, told)
+    let updates = request.updates.as_slice();
+    let mut untold = String::new(alloc);
+    let copy = made(alloc, &info, None, updates, &mut untold)?;
+    let mut store = made(alloc, &info, None, updates, told)?;
+    tell_stores(&mut store, &copy, told);
+    Ok(())
 }
 
 fn tell_room(alloc: Global, info: &P4Info, change: &EntryChange, room: Room, told: &mut String) {

@@ -166,7 +166,7 @@ pub(crate) fn made(
     Ok(store)
 }
 
-fn tell_entry(told: &mut String, entry: Option<&Entry>) {
+pub(crate) fn tell_entry(told: &mut String, entry: Option<&Entry>) {
     let Some(entry) = entry else {
         say(told, "none ");
         return;

@@ -1,6 +1,6 @@
 //! Measures what only shows inside of the process. The word `counters` measures the counters that threads share,
 //! `packets` the reading of fields and the value of expressions, `blocks` the decoding of header blocks, `tables`
-//! look-ups in a table of routes.
+//! look-ups in a table of routes and changes beside it.
 #![tactic(auto)]
 
 mod blocks;
@@ -36,8 +36,8 @@ fn tell_tables(rt: HostRuntime) -> io::Result<()> {
     for routes in [1_000, 8_000] {
         let took = tables::look_ups(&rt, routes)?;
         println!(rt;
-            "{routes} routes: {} hundredths of a nanosecond by name, {} by key ({} found)",
-            took.find, took.best, took.found
+            "{routes} routes: {} hundredths of a nanosecond by name, {} by key ({} found), {} an INSERT into another table ({} made and undone)",
+            took.find, took.best, took.found, took.change, took.made
         )?;
     }
     Ok(())

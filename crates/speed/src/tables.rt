@@ -1,4 +1,4 @@
-// Look-ups in a table of routes.
+// Look-ups in a table of routes, and changes of another table beside it.
 ghost use Rattle.std.specs.Prelude.{◌≡◌, ◌<◌, ◌+◌, ◌-◌, ◌^◌, All, IfOk};
 
 use p4_types::code::NoMemory;
@@ -11,32 +11,37 @@ use std::io::{self, Error, ErrorKind};
 use std::time::Clock;
 use table_store::TableStore;
 
-// The table of IPv4 routes of a router, and its action.
+// The table of IPv4 routes of a router, its action, and another table.
 const ROUTES: u32 = 0x0200_0002;
+
+const OTHER: u32 = 0x0200_0003;
 
 const ROUTE: u32 = 0x0100_0003;
 
 const LOOK_UPS: u32 = 2_000;
 
-/// What a look-up took, in hundredths of a nanosecond: of an entry by its name, and of the best entry of a key. How
-/// many were found, which keeps the work from being left out.
+/// What a look-up took, in hundredths of a nanosecond: of an entry by its name, and of the best entry of a key; and
+/// what an INSERT into another table took that was undone. How many were found and made, which keeps the work from
+/// being left out.
 #[derive(Drop)]
 pub struct Measured {
     pub find: u128,
     pub best: u128,
+    pub change: u128,
     pub found: u32,
+    pub made: u32,
 }
 
 fn text(alloc: Global) -> Text {
     Text::from_string(String::new(alloc))
 }
 
-fn routes(alloc: Global) -> Table
-    ensures { result.preamble.id ≡ 33554434 }
+fn table(alloc: Global, id: u32) -> Table
+    ensures { result.preamble.id ≡ id }
 {
     Table {
         preamble: Preamble {
-            id: ROUTES,
+            id,
             name: text(alloc),
             alias: text(alloc),
             annotations: List::new(alloc),
@@ -57,8 +62,8 @@ fn network(number: u32) -> u128 {
     u128::from(number) * 256 % 0x1_0000_0000
 }
 
-fn name(alloc: Global, number: u32) -> Result<EntryName, NoMemory>
-    ensures { IfOk result (λ name. name.table ≡ 33554434) }
+fn name(alloc: Global, table: u32, number: u32) -> Result<EntryName, NoMemory>
+    ensures { IfOk result (λ name. name.table ≡ table) }
 {
     let mut tests = List::new(alloc);
     tests.push(FieldTest::Prefix {
@@ -67,17 +72,17 @@ fn name(alloc: Global, number: u32) -> Result<EntryName, NoMemory>
         width: 32,
     })?;
     Ok(EntryName {
-        table: ROUTES,
+        table,
         tests,
         priority: 0,
     })
 }
 
-fn route(alloc: Global, number: u32) -> Result<EntryChange, NoMemory>
-    ensures { IfOk result (λ change. change.name.table ≡ 33554434) }
+fn route(alloc: Global, table: u32, number: u32) -> Result<EntryChange, NoMemory>
+    ensures { IfOk result (λ change. change.name.table ≡ table) }
 {
     Ok(EntryChange {
-        name: name(alloc, number)?,
+        name: name(alloc, table, number)?,
         controller_metadata: 0,
         action: ActionCall {
             action: ROUTE,
@@ -94,8 +99,7 @@ fn put(
     change: &EntryChange,
     number: u32,
 ) -> bool
-    requires table { table.now.preamble.id ≡ 33554434 }
-    requires change { change.now.name.table ≡ 33554434 }
+    requires table { change.now.name.table ≡ table.now.preamble.id }
     requires below { All (λ entry. entry.seq < 1 + number) store.old }
     ensures below { All (λ entry. entry.seq < 2 + number) store.new }
 {
@@ -108,11 +112,13 @@ fn put(
 }
 
 // A store of so many routes.
-fn filled(alloc: Global, routes: u32) -> Result<TableStore, NoMemory> {
-    let table = self::routes(alloc);
+fn filled(alloc: Global, routes: u32) -> Result<TableStore, NoMemory>
+    ensures below { IfOk result (λ store. All (λ entry. entry.seq < 1 + routes) store) }
+{
+    let table = self::table(alloc, ROUTES);
     let mut store = TableStore::open(alloc);
     for number in 0..routes {
-        let change = route(alloc, number)?;
+        let change = route(alloc, ROUTES, number)?;
         if !put(alloc, &mut store, &table, &change, number) {
             return Err(NoMemory);
         }
@@ -132,7 +138,7 @@ fn asked(alloc: Global, routes: u32) -> Result<Vec<LookUp>, NoMemory> {
     for number in 0..LOOK_UPS {
         let route = (number * 7919).checked_rem(routes).unwrap_or(0);
         list.push(LookUp {
-            name: name(alloc, route)?,
+            name: name(alloc, ROUTES, route)?,
             key: [network(route).wrapping_add(1)],
         })?;
     }
@@ -159,24 +165,76 @@ fn found_by_key(store: &TableStore, asked: &[LookUp]) -> u32 {
     found
 }
 
+// Puts an entry in, which would draw this sequence number, and undoes it. Whether it was put in.
+fn put_and_undo(
+    alloc: Global,
+    store: TableStore,
+    table: &Table,
+    change: &EntryChange,
+    number: u32,
+) -> (TableStore, bool)
+    requires table { change.now.name.table ≡ table.now.preamble.id }
+    requires below { All (λ entry. entry.seq < 1 + number) store }
+    ensures { result.0 ≡ store }
+{
+    let room = Room {
+        rows: 1,
+        slots: 1,
+        numbers: u64::MAX - 1 - u64::from(number),
+    };
+    let mut draft = store.draft(alloc);
+    let made = draft.insert(alloc, table, change, room).is_ok();
+    (draft.undo(), made)
+}
+
+// How many of the INSERTs into another table were made, each of which was undone.
+fn changed(
+    alloc: Global,
+    mut store: TableStore,
+    table: &Table,
+    change: &EntryChange,
+    routes: u32,
+) -> u32
+    requires table { change.now.name.table ≡ table.now.preamble.id }
+    requires below { All (λ entry. entry.seq < 1 + routes) store }
+{
+    let mut made = 0u32;
+    for _ in 0..LOOK_UPS {
+        let (undone, was_made) = put_and_undo(alloc, store, table, change, routes);
+        store = undone;
+        if was_made {
+            made = made.wrapping_add(1);
+        }
+    }
+    made
+}
+
 fn hundredths(before: u128, after: u128) -> u128 {
     after.saturating_sub(before).saturating_mul(100) / u128::from(LOOK_UPS)
 }
 
-/// Looks up in a table of so many routes.
+/// Looks up in a table of so many routes, and changes another table beside it.
 pub fn look_ups<R: Clock + AllocGlobal>(rt: &R, routes: u32) -> io::Result<Measured> {
     let alloc = rt.alloc();
     let (Ok(store), Ok(asked)) = (filled(alloc, routes), asked(alloc, routes)) else {
+        return Err(Error::from(ErrorKind::OutOfMemory));
+    };
+    let other = table(alloc, OTHER);
+    let Ok(change) = route(alloc, OTHER, 0) else {
         return Err(Error::from(ErrorKind::OutOfMemory));
     };
     let start = rt.monotonic()?.as_nanos();
     let found = found_by_name(&store, &asked);
     let middle = rt.monotonic()?.as_nanos();
     let best = found_by_key(&store, &asked);
+    let found_both = rt.monotonic()?.as_nanos();
+    let made = changed(alloc, store, &other, &change, routes);
     let end = rt.monotonic()?.as_nanos();
     Ok(Measured {
         find: hundredths(start, middle),
-        best: hundredths(middle, end),
+        best: hundredths(middle, found_both),
+        change: hundredths(found_both, end),
         found: found.wrapping_add(best),
+        made,
     })
 }

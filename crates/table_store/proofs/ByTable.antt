@@ -124,11 +124,11 @@ groups_front : (before after : List Group) → AreGroups (before ++ after) → A
 groups_front [] after are = tt
 groups_front (g ∷ before) after are = (are.0, each_front (λ h. g.table < h.table) before after are.1, groups_front before after are.2)
 
-groups_back : (before after : List Group) → AreGroups (before ++ after) → AreGroups after
+pub groups_back : (before after : List Group) → AreGroups (before ++ after) → AreGroups after
 groups_back [] after are = are
 groups_back (g ∷ before) after are = groups_back before after are.2
 
-below_here : (before : List Group) (g : Group) (after : List Group) → AreGroups (before ++ g ∷ after) → AllByRecursion (λ h. h.table < g.table) before
+pub below_here : (before : List Group) (g : Group) (after : List Group) → AreGroups (before ++ g ∷ after) → AllByRecursion (λ h. h.table < g.table) before
 below_here [] g after are = tt
 below_here (b ∷ before) g after are = ((each_back (λ h. b.table < h.table) before (g ∷ after) are.1).0, below_here before g after are.2)
 
@@ -172,13 +172,13 @@ module _ (groups : List Group) (are : AreGroups groups) (table place : ℕ) (at 
   is : groups ≡ take place groups ++ g ∷ drop (suc place) groups
   is = sym (set-get_or groups place g) ∙ set_split groups place (get_or groups place g) at.in_range ∙ ap (λ x. take place groups ++ x ∷ drop (suc place) groups) (sym read)
 
-  split : AreGroups (take place groups ++ g ∷ drop (suc place) groups)
+  pub split : AreGroups (take place groups ++ g ∷ drop (suc place) groups)
   split = subst AreGroups is are
 
   here : IsGroup g
   here = (groups_back (take place groups) (g ∷ drop (suc place) groups) split).0
 
-  of_table : g.table ≡ table
+  pub of_table : g.table ≡ table
   of_table = ap (λ x. x.table) read ∙ at.table_is g
 
   splits : Splits table (flat (take place groups)) g.entries.items (flat (drop (suc place) groups))
@@ -197,7 +197,7 @@ module _ (groups : List Group) (are : AreGroups groups) (table place : ℕ) (at 
   flat_set : (h : Group) → flat (set groups place h) ≡ flat (take place groups) ++ (h.entries.items ++ flat (drop (suc place) groups))
   flat_set h = ap flat (set_split groups place h at.in_range) ∙ flat_at (take place groups) h (drop (suc place) groups)
 
-  groups_set : (h : Group) → g.table ≡ h.table → IsGroup h → AreGroups (set groups place h)
+  pub groups_set : (h : Group) → g.table ≡ h.table → IsGroup h → AreGroups (set groups place h)
   groups_set h same ok = subst AreGroups (sym (set_split groups place h at.in_range)) (replaced (take place groups) g h (drop (suc place) groups) split same ok)
 
   -- a group that is written back with the same entries

@@ -1,7 +1,7 @@
-pub mod Alike
 pub mod Bests
 pub mod Bits
 pub mod ByTable
+pub mod Drafts
 pub mod LawProofs
 pub mod Lists
 pub mod Names

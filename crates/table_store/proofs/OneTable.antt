@@ -4,7 +4,6 @@ use Rattle.std.specs.Prelude.{filter, map, find}
 use Rattle.std.specs.List.{AllByRecursion, position, remove}
 use Rattle.std.proofs.lemmas.Bool.{not_from_false}
 use Rattle.std.proofs.lemmas.List.Quantifiers.{position-Some}
-use Rattle.p4_types.specs.declared.table.ActionCall.{ActionCall}
 use Rattle.p4_types.specs.declared.table.Entry.{Entry}
 use Rattle.p4_types.specs.declared.table.EntryChange.{EntryChange}
 use Rattle.p4_types.specs.declared.table.EntryName.{EntryName}
@@ -43,21 +42,22 @@ remove_is_deleted name (x ∷ xs) zero d order in_range passes fails = rw passes
 remove_is_deleted name (x ∷ xs) (suc i) d order in_range passes fails = rw (fails 0 (omega arith)) (ap (λ ys. x ∷ ys) (remove_is_deleted name xs i d order.1 (omega arith) passes (λ k below. fails (suc k) (omega arith))))
 
 -- what is written at the place of that name
-pub changed_at : (change : EntryChange) (xs : List Entry) (i : ℕ) (e : Entry) (action : ActionCall) → AreInOrder xs → position (λ x. same_name change.name x.name) xs ≡ Some i → e ≡ get_or xs i e → action ≡ change.action
-    → set xs i (record e { controller_metadata = change.controller_metadata; action = action }) ≡ modified change xs
-changed_at change xs i e action order at read brought =
+pub changed_at : (change : EntryChange) (xs : List Entry) (i : ℕ) (e y : Entry) → AreInOrder xs → position (λ x. same_name change.name x.name) xs ≡ Some i → e ≡ get_or xs i e → y ≡ with_change change e
+    → set xs i y ≡ modified change xs
+changed_at change xs i e y order at read brought =
     let place = position-Some (λ x. same_name change.name x.name) xs i e at in
-    ap (λ (a : ActionCall). set xs i (record e { controller_metadata = change.controller_metadata; action = a })) brought
+    ap (λ (x : Entry). set xs i x) brought
     ∙ ap (λ (x : Entry). set xs i (with_change change x)) read
     ∙ set_is_modified change xs i e order place.0 place.1 place.2
 
 pub changed_nowhere : (change : EntryChange) (xs : List Entry) → position (λ x. same_name change.name x.name) xs ≡ None → xs ≡ modified change xs
 changed_nowhere change xs none = sym (unchanged change xs (none_at (λ x. same_name change.name x.name) xs none))
 
-pub removed_at : (name : EntryName) (xs ys : List Entry) (i : ℕ) (d : Entry) → AreInOrder xs → position (λ x. same_name name x.name) xs ≡ Some i → ys ≡ remove xs i → ys ≡ deleted name xs
-removed_at name xs ys i d order at without =
-    let place = position-Some (λ x. same_name name x.name) xs i d at in
-    without ∙ remove_is_deleted name xs i d order place.0 place.1 place.2
+pub removed_at : (name : EntryName) (xs ys : List Entry) (i : ℕ) → AreInOrder xs → position (λ x. same_name name x.name) xs ≡ Some i → ys ≡ remove xs i → ys ≡ deleted name xs
+removed_at name [] ys i order at without = absurd (cc)
+removed_at name (x ∷ xs) ys i order at without =
+    let place = position-Some (λ e. same_name name e.name) (x ∷ xs) i x at in
+    without ∙ remove_is_deleted name (x ∷ xs) i x order place.0 place.1 place.2
 
 pub removed_nowhere : (name : EntryName) (xs : List Entry) → position (λ x. same_name name x.name) xs ≡ None → xs ≡ deleted name xs
 removed_nowhere name xs none = sym (kept name xs (none_at (λ x. same_name name x.name) xs none))

@@ -9,10 +9,6 @@ use Rattle.table_store.specs.declared.groups.Group.{Group}
 abbrev pub flat : List Group → List Entry
 flat groups = flat_map (λ group. group.entries.items) groups
 
--- a group as its table and its entries
-abbrev pub contents : Group → ℕ × List Entry
-contents group = (group.table, group.entries.items)
-
 -- of two entries of one table the former was inserted first, and they have two names
 abbrev pub IsBefore : Entry → Entry → Type 0
 IsBefore a b = (a.seq < b.seq) × (same_name a.name b.name ≡ false)

@@ -1,5 +1,7 @@
 pub mod Answers
+pub mod Drafts
 pub mod Groups
 pub mod Laws
 pub mod Order
+pub mod Rising
 pub mod Scan

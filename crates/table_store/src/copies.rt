@@ -3,7 +3,7 @@ ghost use Rattle.std.specs.Prelude.{◌≡◌, IfOk};
 
 use p4_types::code::NoMemory;
 use p4_types::list::List;
-use p4_types::table::{ActionCall, Entry, EntryName};
+use p4_types::table::{ActionCall, EntryName};
 use std::alloc::Global;
 
 fn copy_list<T: Copy>(alloc: Global, items: &[T]) -> Result<List<T>, NoMemory>
@@ -31,19 +31,5 @@ pub(crate) fn copy_action(alloc: Global, call: &ActionCall) -> Result<ActionCall
     Ok(ActionCall {
         action: call.action,
         arguments,
-    })
-}
-
-pub(crate) fn copy_entry(alloc: Global, entry: &Entry) -> Result<Entry, NoMemory>
-    ensures { IfOk result (λ copy. copy ≡ entry.now) }
-{
-    let name = copy_name(alloc, &entry.name)?;
-    let action = copy_action(alloc, &entry.action)?;
-    Ok(Entry {
-        name,
-        seq: entry.seq,
-        controller_metadata: entry.controller_metadata,
-        action,
-        slot: entry.slot,
     })
 }

@@ -1,20 +1,23 @@
 //! The entries by their tables.
-ghost use Rattle.std.specs.Prelude.{◌≡◌, ◌==◌, ◌<◌, ◌+◌, [], ◌++◌, filter, map, length, IfOk, IfErr, OnOk, OnErr, IfSome, MatchOption, is_some, true};
+ghost use Rattle.std.specs.Prelude.{◌≡◌, ◌==◌, ◌<◌, ◌+◌, [], ◌∷◌, ◌++◌, ℕ, filter, length, IfOk, IfErr, OnOk, OnErr, IfSome, MatchOption, is_some, true};
+ghost use Rattle.std.specs.Prelude as spec;
+ghost use Rattle.std.specs.List.{AllByRecursion};
 ghost use Rattle.switch_spec.specs.Entries.{inserted, modified, deleted, entry_named};
 ghost use Rattle.table_store.specs.Order.{AreOfOneTable, AreOfLowerTables};
-ghost use Rattle.table_store.specs.Groups.{flat, contents, AreGroups, IsAt, IsGap, IsFresh};
+ghost use Rattle.table_store.specs.Groups.{flat, AreGroups, IsAt, IsGap, IsFresh};
+ghost use Rattle.table_store.specs.Drafts.{was, WasGroup, IsTouched, IsStep};
 
-use crate::copies::copy_entry;
 use crate::rows;
 use p4_types::code::NoMemory;
-use p4_types::table::{ActionCall, Entry, EntryChange, EntryName};
+use p4_types::table::{Entry, EntryChange, EntryName};
 use std::alloc::Global;
+use undo_vec::UndoVec;
 
 /// The entries of a table, in the order in which they were inserted.
 #[derive(Drop)]
 pub(crate) struct Group {
     pub(crate) table: u32,
-    pub(crate) entries: Vec<Entry>,
+    pub(crate) entries: UndoVec<Entry>,
 }
 
 /// Where the table's group stands, or where it would stand.
@@ -44,6 +47,7 @@ pub(crate) fn insert(groups: &mut Vec<Group>, alloc: Global, entry: Entry) -> Re
     ensures ok { OnOk result (flat groups.new.items ≡ inserted entry (flat groups.old.items)) }
     ensures err { OnErr result (flat groups.new.items ≡ flat groups.old.items) }
     ensures groups { AreGroups groups.new.items }
+    ensures step { IsStep entry.name.table groups.old.items groups.new.items }
 {
     match place_of(groups, entry.name.table) {
         Ok(place) => {
@@ -52,37 +56,125 @@ pub(crate) fn insert(groups: &mut Vec<Group>, alloc: Global, entry: Entry) -> Re
         }
         Err(place) => {
             let table = entry.name.table;
-            let mut entries = Vec::new(alloc);
-            entries.push(entry)?;
-            groups.insert(place, Group { table, entries })?;
+            groups.insert(place, opened(alloc, entry)?)?;
         }
     }
     Ok(())
 }
 
+// A group of one entry, which was opened for it.
+fn opened(alloc: Global, entry: Entry) -> Result<Group, NoMemory>
+    ensures table { IfOk result (λ group. group.table ≡ entry.name.table) }
+    ensures entries { IfOk result (λ group. group.entries.items ≡ entry ∷ []) }
+    ensures before { IfOk result (λ group. group.entries.before ≡ []) }
+{
+    let table = entry.name.table;
+    let mut entries = UndoVec::new(alloc);
+    entries.push(entry)?;
+    Ok(Group { table, entries })
+}
+
 /// Gives the entry of that name what the change brings.
-pub(crate) fn change(groups: &mut Vec<Group>, change: &EntryChange, action: ActionCall)
-    requires groups { AreGroups groups.old.items }
-    requires action { action ≡ change.now.action }
-    ensures changed { flat groups.new.items ≡ modified change.now (flat groups.old.items) }
+pub(crate) fn change(
+    groups: &mut Vec<Group>,
+    alloc: Global,
+    change: &EntryChange,
+) -> Result<(), NoMemory>
+    requires { AreGroups groups.old.items }
+    ensures changed { OnOk result (flat groups.new.items ≡ modified change.now (flat groups.old.items)) }
+    ensures err { OnErr result (flat groups.new.items ≡ flat groups.old.items) }
     ensures groups { AreGroups groups.new.items }
+    ensures step { IsStep change.now.name.table groups.old.items groups.new.items }
 {
     if let Ok(place) = place_of(groups, change.name.table) {
         let group = &mut groups[place];
-        rows::change(&mut group.entries, change, action);
+        rows::change(&mut group.entries, alloc, change)?;
     }
+    Ok(())
 }
 
 /// Removes the entry of that name.
-pub(crate) fn remove(groups: &mut Vec<Group>, name: &EntryName)
+pub(crate) fn remove(groups: &mut Vec<Group>, name: &EntryName) -> Result<(), NoMemory>
+    requires { AreGroups groups.old.items }
+    ensures removed { OnOk result (flat groups.new.items ≡ deleted name.now (flat groups.old.items)) }
+    ensures one { OnOk result (is_some (entry_named name.now (flat groups.old.items)) ≡ true → length (flat groups.new.items) + 1 ≡ length (flat groups.old.items)) }
+    ensures err { OnErr result (flat groups.new.items ≡ flat groups.old.items) }
+    ensures groups { AreGroups groups.new.items }
+    ensures step { IsStep name.now.table groups.old.items groups.new.items }
+{
+    if let Ok(place) = place_of(groups, name.table) {
+        let group = &mut groups[place];
+        rows::remove(&mut group.entries, name)?;
+    }
+    Ok(())
+}
+
+/// Removes the entry of that name for good. It takes no memory.
+pub(crate) fn discard(groups: &mut Vec<Group>, name: &EntryName)
     requires { AreGroups groups.old.items }
     ensures removed { flat groups.new.items ≡ deleted name.now (flat groups.old.items) }
     ensures one { is_some (entry_named name.now (flat groups.old.items)) ≡ true → length (flat groups.new.items) + 1 ≡ length (flat groups.old.items) }
     ensures groups { AreGroups groups.new.items }
+    ensures settled { AllByRecursion (IsTouched []) groups.old.items → AllByRecursion (IsTouched []) groups.new.items }
 {
     if let Ok(place) = place_of(groups, name.table) {
         let group = &mut groups[place];
-        rows::remove(&mut group.entries, name);
+        rows::discard(&mut group.entries, name);
+    }
+}
+
+/// Keeps the changes of a table. It takes no memory.
+pub(crate) fn settle(groups: &mut Vec<Group>, table: u32)
+    requires { AreGroups groups.old.items }
+    ensures entries { flat groups.new.items ≡ flat groups.old.items }
+    ensures groups { AreGroups groups.new.items }
+    ensures touched { (tables : spec.List ℕ) → AllByRecursion (IsTouched (table ∷ tables)) groups.old.items → AllByRecursion (IsTouched tables) groups.new.items }
+{
+    if let Ok(place) = place_of(groups, table) {
+        let group = &mut groups[place];
+        group.entries.settle();
+    }
+}
+
+/// Undoes the changes of a table. It takes no memory.
+pub(crate) fn restore(groups: &mut Vec<Group>, table: u32)
+    requires groups { AreGroups groups.old.items }
+    requires kept { AllByRecursion WasGroup groups.old.items }
+    ensures before { was groups.new.items ≡ was groups.old.items }
+    ensures groups { AreGroups groups.new.items }
+    ensures kept { AllByRecursion WasGroup groups.new.items }
+    ensures touched { (tables : spec.List ℕ) → AllByRecursion (IsTouched (table ∷ tables)) groups.old.items → AllByRecursion (IsTouched tables) groups.new.items }
+{
+    if let Ok(place) = place_of(groups, table) {
+        let group = &mut groups[place];
+        group.entries.undo();
+    }
+}
+
+/// Keeps the changes of the tables, which are all that were changed.
+pub(crate) fn settle_all(groups: &mut Vec<Group>, tables: &[u32])
+    requires groups { AreGroups groups.old.items }
+    requires touched { AllByRecursion (IsTouched tables.now) groups.old.items }
+    ensures entries { flat groups.new.items ≡ flat groups.old.items }
+    ensures groups { AreGroups groups.new.items }
+    ensures settled { AllByRecursion (IsTouched []) groups.new.items }
+{
+    for table in tables {
+        settle(groups, *table);
+    }
+}
+
+/// Undoes the changes of the tables, which are all that were changed.
+pub(crate) fn restore_all(groups: &mut Vec<Group>, tables: &[u32])
+    requires groups { AreGroups groups.old.items }
+    requires kept { AllByRecursion WasGroup groups.old.items }
+    requires touched { AllByRecursion (IsTouched tables.now) groups.old.items }
+    ensures entries { flat groups.new.items ≡ was groups.old.items }
+    ensures groups { AreGroups groups.new.items }
+    ensures settled { AllByRecursion (IsTouched []) groups.new.items }
+{
+    for table in tables {
+        restore(groups, *table);
     }
 }
 
@@ -98,38 +190,12 @@ pub(crate) fn next(groups: &[Group]) -> Option<(&[Entry], &[Group])>
     match groups {
         [] => None,
         [group, others @ ..] => {
-            if group.entries.is_empty() {
+            let entries = group.entries.as_slice();
+            if entries.is_empty() {
                 next(others)
             } else {
-                Some((group.entries.as_slice(), others))
+                Some((entries, others))
             }
         }
     }
-}
-
-fn copy_group(alloc: Global, group: &Group) -> Result<Group, NoMemory>
-    ensures table { IfOk result (λ copy. copy.table ≡ group.now.table) }
-    ensures entries { IfOk result (λ copy. copy.entries.items ≡ group.now.entries.items) }
-{
-    let mut entries = Vec::new(alloc);
-    for entry in &group.entries {
-        let copy = copy_entry(alloc, entry)?;
-        entries.push(copy)?;
-    }
-    Ok(Group {
-        table: group.table,
-        entries,
-    })
-}
-
-/// Copies of the groups.
-pub(crate) fn duplicate(alloc: Global, groups: &[Group]) -> Result<Vec<Group>, NoMemory>
-    ensures { IfOk result (λ copies. map contents copies.items ≡ map contents groups.now) }
-{
-    let mut copies = Vec::new(alloc);
-    for group in groups {
-        let copy = copy_group(alloc, group)?;
-        copies.push(copy)?;
-    }
-    Ok(copies)
 }

@@ -1,7 +1,10 @@
 //! The entries of a program's tables: which one a key takes, and what changes them.
 #![tactic(auto)]
 
+mod causes;
+mod changes;
 mod copies;
+mod draft;
 mod error;
 mod groups;
 pub mod laws;
@@ -9,5 +12,6 @@ mod matching;
 mod rows;
 mod store;
 
+pub use draft::StoreDraft;
 pub use error::StoreError;
 pub use store::{TableStore, Tables};

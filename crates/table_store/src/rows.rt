@@ -1,13 +1,17 @@
 //! The entries of one table.
-ghost use Rattle.std.specs.Prelude.{◌≡◌, ◌+◌, length, List, [], ◌∷◌, ◌++◌, is_some, if◌then◌else◌};
+ghost use Rattle.std.specs.Prelude.{◌≡◌, IfOk, OnOk, OnErr};
 ghost use Rattle.std.specs.List.{position};
 ghost use Rattle.std.specs.Option.{option_map};
-ghost use Rattle.switch_spec.specs.Entries.{same_name, entry_named, best, modified, deleted};
+ghost use Rattle.switch_spec.specs.Entries.{same_name, entry_named, best, with_change, modified, deleted};
 ghost use Rattle.table_store.specs.Groups.{AreInOrder};
 ghost use Rattle.table_store.specs.Scan.{wins};
 
+use crate::copies::{copy_action, copy_name};
 use crate::matching::{beats, hits, same_name};
-use p4_types::table::{ActionCall, Entry, EntryChange, EntryName};
+use p4_types::code::NoMemory;
+use p4_types::table::{Entry, EntryChange, EntryName};
+use std::alloc::Global;
+use undo_vec::UndoVec;
 
 fn place_of(entries: &[Entry], name: &EntryName) -> Option<usize>
     ensures { result ≡ position (λ entry. same_name name.now entry.name) entries.now }
@@ -50,25 +54,62 @@ pub(crate) fn best<'a>(table: u32, key: &[u128], entries: &'a [Entry]) -> Option
     found
 }
 
-/// Gives the entry of that name, of which there is one at most, what the change brings.
-pub(crate) fn change(entries: &mut Vec<Entry>, change: &EntryChange, action: ActionCall)
-    requires order { AreInOrder entries.old.items }
-    requires action { action ≡ change.now.action }
-    ensures { entries.new.items ≡ modified change.now entries.old.items }
+/// An entry with what a change brings, of the same name, sequence number and slot.
+fn with_change(alloc: Global, entry: &Entry, change: &EntryChange) -> Result<Entry, NoMemory>
+    ensures { IfOk result (λ changed. changed ≡ with_change change.now entry.now) }
 {
-    if let Some(place) = place_of(entries, &change.name) {
-        let entry = &mut entries[place];
-        entry.controller_metadata = change.controller_metadata;
-        entry.action = action;
+    let name = copy_name(alloc, &entry.name)?;
+    Ok(Entry {
+        name,
+        seq: entry.seq,
+        controller_metadata: change.controller_metadata,
+        action: copy_action(alloc, &change.action)?,
+        slot: entry.slot,
+    })
+}
+
+/// Gives the entry of that name, of which there is one at most, what the change brings.
+pub(crate) fn change(
+    entries: &mut UndoVec<Entry>,
+    alloc: Global,
+    change: &EntryChange,
+) -> Result<(), NoMemory>
+    requires { AreInOrder entries.old.items }
+    ensures ok { OnOk result (entries.new.items ≡ modified change.now entries.old.items) }
+    ensures err { OnErr result (entries.new.items ≡ entries.old.items) }
+    ensures before { entries.new.before ≡ entries.old.before }
+{
+    let place = place_of(entries.as_slice(), &change.name);
+    if let Some(place) = place {
+        let rows = entries.as_slice();
+        let changed = with_change(alloc, &rows[place], change)?;
+        entries.replace(place, changed)?;
     }
+    Ok(())
 }
 
 /// Removes the entry of that name, of which there is one at most.
-pub(crate) fn remove(entries: &mut Vec<Entry>, name: &EntryName)
+pub(crate) fn remove(entries: &mut UndoVec<Entry>, name: &EntryName) -> Result<(), NoMemory>
     requires { AreInOrder entries.old.items }
-    ensures { entries.new.items ≡ deleted name.now entries.old.items }
+    ensures ok { OnOk result (entries.new.items ≡ deleted name.now entries.old.items) }
+    ensures err { OnErr result (entries.new.items ≡ entries.old.items) }
+    ensures before { entries.new.before ≡ entries.old.before }
 {
-    if let Some(place) = place_of(entries, name) {
-        entries.remove(place);
+    let place = place_of(entries.as_slice(), name);
+    if let Some(place) = place {
+        entries.remove(place)?;
+    }
+    Ok(())
+}
+
+/// Removes the entry of that name, of which there is one at most, for good.
+pub(crate) fn discard(entries: &mut UndoVec<Entry>, name: &EntryName)
+    requires { AreInOrder entries.old.items }
+    ensures items { entries.new.items ≡ deleted name.now entries.old.items }
+    ensures before { entries.old.before ≡ entries.old.items → entries.new.before ≡ entries.new.items }
+{
+    let place = place_of(entries.as_slice(), name);
+    if let Some(place) = place {
+        entries.discard(place);
     }
 }

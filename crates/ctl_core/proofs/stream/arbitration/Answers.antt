@@ -6,7 +6,7 @@ use Rattle.role_arbiter.specs.Telling.{told_at_arbitration}
 use Rattle.switch_spec.specs.Answer.{Answer}
 use Rattle.p4_types.specs.declared.code.Code.TheVariants as codes
 use Rattle.ctl_core.specs.declared.prepared.Prepared.{Prepared}
-use Rattle.ctl_core.specs.declared.prepared.Draft.TheVariants as drafts
+use Rattle.ctl_core.specs.declared.prepared.Effect.TheVariants as effects
 use Rattle.ctl_core.specs.Prepared.{IsPrepared, Leads}
 use Rattle.control_state.specs.Whole.{control_in}
 use Rattle.ctl_core.proofs.Arbitrating.{not_refused, told, handed, asks_for}
@@ -20,7 +20,7 @@ returns-clause-prepared c =
     let session = c.in-Ok.session in
     let roles_are = c.enter-lanes.ensures.step ∙ ap (λ r. arbitrated r session) c.in_ok-roles.ensures in
     let lanes_are = c.as_slice.ensures ∙ c.enter-lanes.ensures.told ∙ ap (λ r. told_at_arbitration r session) c.in_ok-roles.ensures in
-    let p : Prepared = record { code = codes.Ok; messages = c.new.result; notices = c.in_ok-notices.notices; events = c.in_ok-only.field-0; draft = drafts.Roles c.enter-lanes.new.self } in
+    let p : Prepared = record { code = codes.Ok; messages = c.new.result; notices = c.in_ok-notices.notices; events = c.in_ok-only.field-0; effect = effects.Roles c.enter-lanes.new.self } in
     subst (λ (a : Answer). IsPrepared a p) (sym (not_refused s c.args.lane c.args.call update (search rules) c.in-Ok.ensures.accepted)) (record {
       code = refl;
       messages = search rules;
@@ -36,6 +36,6 @@ returns-clause-leads c =
     let session = c.in-Ok.session in
     let by : Origin = record { caller = c.args.lane; call = c.args.call; role = session.role; election_id = session.election_id } in
     let roles_are = c.enter-lanes.ensures.step ∙ ap (λ r. arbitrated r session) c.in_ok-roles.ensures ∙ ap (λ x. arbitrated s.roles x) c.in-Ok.ensures.session in
-    let P : List Event → Type 0 = λ list. Leads s list (drafts.Roles c.enter-lanes.new.self) in
+    let P : List Event → Type 0 = λ list. Leads s list (effects.Roles c.enter-lanes.new.self) in
     subst P (sym c.in_ok-only.ensures) (arbitration_leads s by update c.in_ok-config.config c.enter-lanes.new.self c.in-Ok.ensures.accepted
     (asks_for c.args.lane c.args.call update session c.in_ok-config.config c.in-Ok.ensures.session c.in_ok-config.ensures) roles_are)

@@ -7,7 +7,7 @@ use Rattle.role_arbiter.specs.State.{session_in}
 use Rattle.switch_spec.specs.Answer.{leave_of}
 use Rattle.switch_spec.specs.Notices.{standing_notices}
 use Rattle.ctl_core.specs.declared.prepared.Prepared.{Prepared}
-use Rattle.ctl_core.specs.declared.prepared.Draft.TheVariants as drafts
+use Rattle.ctl_core.specs.declared.prepared.Effect.TheVariants as effects
 use Rattle.ctl_core.specs.Prepared.{IsPrepared}
 use Rattle.control_state.specs.Whole.{control_in}
 use Rattle.ctl_core.proofs.stream.leave.Goals as goal
@@ -16,7 +16,7 @@ pub returns-clause-prepared : goal.returns-clause-prepared
 returns-clause-prepared c =
     let s = control_in c.args.state.now in
     let session : Session = c.in-Some.session.now in
-    let p : Prepared = record { code = codes.Ok; messages = c.new.result; notices = c.in_ok-notices.notices; events = c.in_ok-only.field-0; draft = drafts.Roles c.leave.new.self } in
+    let p : Prepared = record { code = codes.Ok; messages = c.new.result; notices = c.in_ok-notices.notices; events = c.in_ok-only.field-0; effect = effects.Roles c.leave.new.self } in
     let has : Some session ≡ session_in s.roles.sessions c.args.lane = sym (ap option_copied c.in-Some.is) ∙ c.session.ensures in
     let roles_are = c.leave.ensures.step ∙ ap (λ r. left r c.args.lane) c.in_ok-roles.ensures in
     let lanes_are = c.as_slice.ensures ∙ c.told_at_leave-lanes.ensures in

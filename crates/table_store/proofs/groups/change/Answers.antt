@@ -1,15 +1,32 @@
 use Rattle.std.proofs.Common.{refl}
-use Rattle.table_store.proofs.ByTable.{order_at, flat_modified, groups_modified, none_modified}
+use Rattle.table_store.proofs.Lists.{on_err}
+use Rattle.table_store.proofs.ByTable.{order_at, flat_modified, groups_modified, flat_same, groups_same, none_modified}
+use Rattle.table_store.proofs.Drafts.{step_none, step_set}
 use Rattle.table_store.proofs.groups.change.Goals as goal
 
-pub change-requires-clause-order : goal.change-requires-clause-order
-change-requires-clause-order c = order_at _ c.requires.groups _ _ (rw c.deref.ensures.value at c.in-Ok.ensures.found) _ c.index_mut-group.ensures.value
+pub change-requires : goal.change-requires
+change-requires c = order_at _ c.requires _ _ (rw c.deref.ensures.value at c.in-Ok.ensures.found) _ c.index_mut-group.ensures.value
 
-pub returns-in-Ok-clause-changed : goal.returns-in-Ok-clause-changed
-returns-in-Ok-clause-changed c = flat_modified _ c.requires.groups _ _ (rw c.deref.ensures.value at c.in-Ok.ensures.found) _ c.index_mut-group.ensures.value _ _ refl c.change.ensures
+pub returns-in_err-change-clause-err : goal.returns-in_err-change-clause-err
+returns-in_err-change-clause-err c = on_err _ _ (flat_same _ c.requires _ _ (rw c.deref.ensures.value at c.in-Ok.ensures.found) _ c.index_mut-group.ensures.value _ c.in_err-change.ensures.err)
 
-pub returns-in-Ok-clause-groups : goal.returns-in-Ok-clause-groups
-returns-in-Ok-clause-groups c = groups_modified _ c.requires.groups _ _ (rw c.deref.ensures.value at c.in-Ok.ensures.found) _ c.index_mut-group.ensures.value _ _ refl c.change.ensures
+pub returns-in_err-change-clause-groups : goal.returns-in_err-change-clause-groups
+returns-in_err-change-clause-groups c = groups_same _ c.requires _ _ (rw c.deref.ensures.value at c.in-Ok.ensures.found) _ c.index_mut-group.ensures.value _ refl c.in_err-change.ensures.err
+
+pub returns-in_err-change-clause-step : goal.returns-in_err-change-clause-step
+returns-in_err-change-clause-step c = step_set _ c.requires _ _ (rw c.deref.ensures.value at c.in-Ok.ensures.found) _ c.index_mut-group.ensures.value _ refl c.change.ensures.before
+
+pub returns-in_ok-change-clause-changed : goal.returns-in_ok-change-clause-changed
+returns-in_ok-change-clause-changed c = flat_modified _ c.requires _ _ (rw c.deref.ensures.value at c.in-Ok.ensures.found) _ c.index_mut-group.ensures.value _ _ refl c.in_ok-change.ensures.ok
+
+pub returns-in_ok-change-clause-groups : goal.returns-in_ok-change-clause-groups
+returns-in_ok-change-clause-groups c = groups_modified _ c.requires _ _ (rw c.deref.ensures.value at c.in-Ok.ensures.found) _ c.index_mut-group.ensures.value _ _ refl c.in_ok-change.ensures.ok
+
+pub returns-in_ok-change-clause-step : goal.returns-in_ok-change-clause-step
+returns-in_ok-change-clause-step c = step_set _ c.requires _ _ (rw c.deref.ensures.value at c.in-Ok.ensures.found) _ c.index_mut-group.ensures.value _ refl c.change.ensures.before
 
 pub returns-in_default-clause-changed : goal.returns-in_default-clause-changed
-returns-in_default-clause-changed c = none_modified _ c.requires.groups _ _ (rw c.deref.ensures.value at c.in_default.ensures.absent) _ refl
+returns-in_default-clause-changed c = none_modified _ c.requires _ _ (rw c.deref.ensures.value at c.in_default.ensures.absent) _ refl
+
+pub returns-in_default-clause-step : goal.returns-in_default-clause-step
+returns-in_default-clause-step c = step_none _ _

@@ -5,12 +5,12 @@ use Rattle.switch_spec.specs.Entries.{same_name}
 use Rattle.table_store.proofs.OneTable.{removed_at, removed_nowhere}
 use Rattle.table_store.proofs.rows.remove.Goals as goal
 
-pub returns-in-Some : goal.returns-in-Some
-returns-in-Some c =
-    let place = ap (λ (xs : List Entry). position (λ (x : Entry). same_name c.args.name.now x.name) xs) (sym c.deref.ensures.value) ∙ sym c.place_of.ensures ∙ c.in-Some.is in
-    removed_at c.args.name.now _ _ _ c.remove.result c.requires place c.remove.ensures.items
+pub returns-in_ok-remove-clause-ok : goal.returns-in_ok-remove-clause-ok
+returns-in_ok-remove-clause-ok c =
+    let place = ap (λ (xs : List Entry). position (λ (x : Entry). same_name c.args.name.now x.name) xs) (sym c.as_slice.ensures) ∙ sym c.place_of-place.ensures ∙ c.in-Some.is in
+    removed_at c.args.name.now _ _ _ c.requires place c.in_ok-remove.ensures.ok
 
-pub returns-in_default : goal.returns-in_default
-returns-in_default c =
-    let place = ap (λ (xs : List Entry). position (λ (x : Entry). same_name c.args.name.now x.name) xs) (sym c.deref.ensures.value) ∙ sym c.place_of.ensures ∙ c.in_default.is in
+pub returns-in_default-clause-ok : goal.returns-in_default-clause-ok
+returns-in_default-clause-ok c =
+    let place = ap (λ (xs : List Entry). position (λ (x : Entry). same_name c.args.name.now x.name) xs) (sym c.as_slice.ensures) ∙ sym c.place_of-place.ensures ∙ c.in_default.is in
     removed_nowhere c.args.name.now _ place

@@ -1,9 +1,11 @@
-use Rattle.std.proofs.Common.{length, sym, ap, ◌∙◌}
-use Rattle.table_store.proofs.OfTable.{length_modified}
+use Rattle.std.proofs.Common.{◌∙◌}
+use Rattle.table_store.proofs.Drafts.{store_after, counted_same, counted_changed}
 use Rattle.table_store.proofs.store.TableStore.modify.Goals as goal
 
 pub invariant_of-self : goal.invariant_of-self
-invariant_of-self c = record {
-  groups = c.change.ensures.groups;
-  entries = c.self.invariant.entries ∙ sym (length_modified c.args.change.now _) ∙ ap length (sym c.change.ensures.changed);
-}
+invariant_of-self c = store_after _ _ _ _ _ c.self.invariant.settled c.modify-made.ensures.step c.settle.ensures.groups c.settle.ensures.touched
+    (counted_same _ _ _ c.self.invariant.entries (c.settle.ensures.entries ∙ c.in_err-made.ensures.err))
+
+pub invariant_of-self-2 : goal.invariant_of-self-2
+invariant_of-self-2 c = store_after _ _ _ _ _ c.self.invariant.settled c.modify-made.ensures.step c.settle.ensures.groups c.settle.ensures.touched
+    (counted_changed _ c.args.change.now _ _ c.self.invariant.entries (c.settle.ensures.entries ∙ c.in_ok-made.ensures.ok))

@@ -1,0 +1,16 @@
+use Rattle.std.proofs.Common.{List, sym, ap, ◌∙◌}
+use Rattle.std.specs.List.{position}
+use Rattle.p4_types.specs.declared.table.Entry.{Entry}
+use Rattle.switch_spec.specs.Entries.{same_name}
+use Rattle.table_store.proofs.OneTable.{removed_at, removed_nowhere}
+use Rattle.table_store.proofs.rows.discard.Goals as goal
+
+pub returns-in-Some-clause-items : goal.returns-in-Some-clause-items
+returns-in-Some-clause-items c =
+    let place = ap (λ (xs : List Entry). position (λ (x : Entry). same_name c.args.name.now x.name) xs) (sym c.as_slice.ensures) ∙ sym c.place_of-place.ensures ∙ c.in-Some.is in
+    removed_at c.args.name.now _ _ _ c.requires place c.discard.ensures.items
+
+pub returns-in_default-clause-items : goal.returns-in_default-clause-items
+returns-in_default-clause-items c =
+    let place = ap (λ (xs : List Entry). position (λ (x : Entry). same_name c.args.name.now x.name) xs) (sym c.as_slice.ensures) ∙ sym c.place_of-place.ensures ∙ c.in_default.is in
+    removed_nowhere c.args.name.now _ place

@@ -1,8 +1,0 @@
-use Rattle.table_store.proofs.OfTable.{full_by_size, full_by_room}
-use Rattle.table_store.proofs.store.TableStore.is_full.Goals as goal
-
-pub returns-then-table_size-entries : goal.returns-then-table_size-entries
-returns-then-table_size-entries c = full_by_size c.args.table.now c.args.room c.args.self.now _ _ c.entries_of.ensures c.table_size.ensures c.if-table_size-entries.true
-
-pub returns-else-table_size-entries : goal.returns-else-table_size-entries
-returns-else-table_size-entries c = full_by_room c.args.table.now c.args.room c.args.self.now _ _ _ c.entries_of.ensures c.table_size.ensures c.if-table_size-entries.false c.lacks_room.ensures
