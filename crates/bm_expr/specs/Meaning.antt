@@ -49,6 +49,7 @@ pub record FieldInStore (store : Contents) (place : FieldPlace) : Type 0 where
 
 -- The fields and headers that an expression names stand in the store, its data are there, and its literals have 128 bits.
 abbrev mutual
+  -- so it is with an expression that is a number
   pub NumberInStore : Contents → List ℕ → Number → Type 0
   NumberInStore store args (Field place) = FieldInStore store place
   NumberInStore store args (Literal n) = n < 2 ^ 128
@@ -65,6 +66,7 @@ abbrev mutual
   NumberInStore store args (Choose' _ c _ x _ y) = TruthInStore store args c × NumberInStore store args x × NumberInStore store args y
   NumberInStore store args (OfTruth' _ t) = TruthInStore store args t
 
+  -- the same for an expression that is a truth value
   pub TruthInStore : Contents → List ℕ → Truth → Type 0
   TruthInStore store args (Constant b) = Unit
   TruthInStore store args (Equal' _ x _ y) = NumberInStore store args x × NumberInStore store args y

@@ -25,6 +25,7 @@ is_settled _ = false
 
 -- Every operand that must be settled is: those of comparisons and of `d2b`, the left of `>>`, and shift amounts.
 abbrev mutual
+  -- so it is within an expression that is a number
   pub number_operands_settled : Number → Bool
   number_operands_settled (Field _) = true
   number_operands_settled (Literal _) = true
@@ -41,6 +42,7 @@ abbrev mutual
   number_operands_settled (Choose' _ c _ x _ y) = truth_operands_settled c && number_operands_settled x && number_operands_settled y
   number_operands_settled (OfTruth' _ t) = truth_operands_settled t
 
+  -- the same within an expression that is a truth value
   pub truth_operands_settled : Truth → Bool
   truth_operands_settled (Constant _) = true
   truth_operands_settled (Equal' _ x _ y) = number_operands_settled x && number_operands_settled y && is_settled x && is_settled y

@@ -18,25 +18,30 @@ abbrev pub int_not : ℤ → ℤ
 int_not (pos n) = negsuc n
 int_not (negsuc n) = pos n
 
+-- `&`: the bits that both integers have
 abbrev pub int_and : ℤ → ℤ → ℤ
 int_and (pos a) (pos b) = pos (bit_and a b)
 int_and (pos a) (negsuc b) = pos (a - bit_and a b)
 int_and (negsuc a) (pos b) = pos (b - bit_and b a)
 int_and (negsuc a) (negsuc b) = negsuc (bit_or a b)
 
+-- `|`: the bits that one of the integers has, or both
 abbrev pub int_or : ℤ → ℤ → ℤ
 int_or x y = int_not (int_and (int_not x) (int_not y))
 
+-- `^`: the bits that just one of the integers has
 abbrev pub int_xor : ℤ → ℤ → ℤ
 int_xor (pos a) (pos b) = pos (bit_xor a b)
 int_xor (pos a) (negsuc b) = negsuc (bit_xor a b)
 int_xor (negsuc a) (pos b) = negsuc (bit_xor a b)
 int_xor (negsuc a) (negsuc b) = pos (bit_xor a b)
 
+-- `>>`: an integer without its lowest k bits, its sign kept
 abbrev pub int_right : ℤ → ℕ → ℤ
 int_right (pos n) k = pos (n / 2 ^ k)
 int_right (negsuc n) k = negsuc (n / 2 ^ k)
 
+-- two integers are the same
 abbrev pub int_same : ℤ → ℤ → Bool
 int_same (pos a) (pos b) = a == b
 int_same (pos a) (negsuc b) = false

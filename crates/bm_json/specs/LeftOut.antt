@@ -32,31 +32,38 @@ use Rattle.bm_records.specs.declared.raw.Selector.{Selector}
 use Rattle.bm_records.specs.declared.raw.Pipeline.{Pipeline}
 use Rattle.bm_records.specs.declared.raw.RawProgram.{RawProgram}
 
+-- a part stands as left out
 abbrev pub is_left_out : {A : Type 0} → Part A → Bool
 is_left_out (parts.Served x) = false
 is_left_out parts.LeftOut = true
 
+-- the width of a field of a header type is left out
 abbrev pub type_left_out : HeaderType → Bool
 type_left_out type = list_any (λ field. is_left_out field.width) type.fields
 
+-- a term is left out, or its literal or its header is
 abbrev pub term_left_out : Term → Bool
 term_left_out (terms.Literal literal) = is_left_out literal
 term_left_out (terms.Header header) = is_left_out header
 term_left_out terms.LeftOut = true
 term_left_out _ = false
 
+-- a term of an expression is left out
 abbrev pub expression_left_out : Expression → Bool
 expression_left_out expression = list_any term_left_out expression.terms
 
+-- the same for a condition, where there is one
 abbrev pub condition_left_out : Option Expression → Bool
 condition_left_out None = false
 condition_left_out (Some condition) = expression_left_out condition
 
+-- a learn list is named by a form that is left out, or by an id that is
 abbrev pub name_left_out : LearnListName → Bool
 name_left_out (names.Name name) = false
 name_left_out (names.Id id) = is_left_out id
 name_left_out names.LeftOut = true
 
+-- a primitive is left out, or a parameter that its record keeps is
 abbrev pub primitive_left_out : Primitive → Bool
 primitive_left_out (primitives.Assign target value) = is_left_out target || expression_left_out value
 primitive_left_out (primitives.AddHeader header) = is_left_out header
@@ -69,44 +76,55 @@ primitive_left_out primitives.NoOp = false
 primitive_left_out primitives.LeftOut = true
 primitive_left_out (primitives.Unknown name) = false
 
+-- the width of a datum of an action is left out, or one of its primitives is
 abbrev pub action_left_out : Action → Bool
 action_left_out action = list_any (λ datum. is_left_out datum.width) action.runtime_data || list_any primitive_left_out action.primitives
 
+-- an operation of a parser's state is left out, or a parameter that its record keeps is
 abbrev pub parser_op_left_out : ParserOp → Bool
 parser_op_left_out (parser_ops.Extract header) = is_left_out header
 parser_op_left_out (parser_ops.Set target value) = is_left_out target || expression_left_out value
 parser_op_left_out parser_ops.LeftOut = true
 parser_op_left_out (parser_ops.Unknown name) = false
 
+-- the value that a transition asks for is left out
 abbrev pub match_left_out : MatchValue → Bool
 match_left_out matches.Default = false
 match_left_out (matches.Literal literal) = is_left_out literal
 match_left_out matches.LeftOut = true
 
+-- the same for its mask, where there is one
 abbrev pub mask_left_out : Option (Part ℕ) → Bool
 mask_left_out None = false
 mask_left_out (Some mask) = is_left_out mask
 
+-- the value or the mask of a transition is left out
 abbrev pub transition_left_out : Transition → Bool
 transition_left_out transition = match_left_out transition.value || mask_left_out transition.mask
 
+-- an operation, a field of the key or a transition of a parse state is left out
 abbrev pub state_left_out : ParseState → Bool
 state_left_out state = list_any parser_op_left_out state.parser_ops || list_any is_left_out state.transition_key || list_any transition_left_out state.transitions
 
+-- an input of a calculation is left out, or the value or the width of its literal is
 abbrev pub input_left_out : CalculationInput → Bool
 input_left_out (inputs.Field field) = false
 input_left_out (inputs.Literal value width) = is_left_out value || is_left_out width
 input_left_out inputs.LeftOut = true
 
+-- one of a calculation's inputs is left out
 abbrev pub calculation_left_out : Calculation → Bool
 calculation_left_out calculation = list_any input_left_out calculation.input
 
+-- the condition of a checksum is left out
 abbrev pub checksum_left_out : Checksum → Bool
 checksum_left_out checksum = condition_left_out checksum.if_cond
 
+-- an element of a learn list is left out
 abbrev pub learn_list_left_out : LearnList → Bool
 learn_list_left_out list = list_any is_left_out list.elements
 
+-- a literal of a default entry's action data is left out, where there is such an entry
 abbrev pub default_left_out : Option DefaultEntry → Bool
 default_left_out None = false
 default_left_out (Some entry) = list_any is_left_out entry.action_data
@@ -115,14 +133,17 @@ default_left_out (Some entry) = list_any is_left_out entry.action_data
 abbrev pub table_left_out : Table → Bool
 table_left_out table = table.has_entries || default_left_out table.default_entry
 
+-- a field of a selector's input is left out, where there is a selector
 abbrev pub selector_left_out : Option Selector → Bool
 selector_left_out None = false
 selector_left_out (Some selector) = list_any is_left_out selector.input
 
+-- a table, the selector of an action profile or a conditional of a pipeline is left out
 abbrev pub pipeline_left_out : Pipeline → Bool
 pipeline_left_out pipeline =
     list_any table_left_out pipeline.tables || list_any (λ profile. selector_left_out profile.selector) pipeline.action_profiles || list_any (λ conditional. expression_left_out conditional.expression) pipeline.conditionals
 
+-- the bits of a width; one that is left out counts as 0
 abbrev pub width_bits : Part ℕ → ℕ
 width_bits (parts.Served bits) = bits
 width_bits parts.LeftOut = 0
@@ -131,9 +152,11 @@ width_bits parts.LeftOut = 0
 abbrev pub bits_over : List TypeField → ℕ
 bits_over fields = fold (λ bits field. (bits + width_bits field.width) % 8) 0 fields
 
+-- the first header type of a name, if there is one
 abbrev pub type_named : List HeaderType → List ℕ → Option HeaderType
 type_named types name = find (λ type. bytes_eq type.name name) types
 
+-- there is a header type, and the served widths of its fields do not fill whole bytes
 abbrev pub is_ragged_type : Option HeaderType → Bool
 is_ragged_type None = false
 is_ragged_type (Some type) = not (bits_over type.fields == 0)
@@ -142,13 +165,16 @@ is_ragged_type (Some type) = not (bits_over type.fields == 0)
 abbrev pub is_ragged : List HeaderType → Header → Bool
 is_ragged types header = not header.metadata && is_ragged_type (type_named types header.header_type)
 
+-- objects that are left out are listed, a header type is left out, or a header is not whole bytes
 abbrev pub headers_left_out : RawProgram → Bool
 headers_left_out program = program.lists_left_out || list_any type_left_out program.header_types || list_any (is_ragged program.header_types) program.headers
 
+-- a calculation, a checksum, a learn list or an action is left out
 abbrev pub objects_left_out : RawProgram → Bool
 objects_left_out program =
     list_any calculation_left_out program.calculations || list_any checksum_left_out program.checksums || list_any learn_list_left_out program.learn_lists || list_any action_left_out program.actions
 
+-- a state of the parser is left out, or something of the ingress or of the egress is
 abbrev pub steps_left_out : RawProgram → Bool
 steps_left_out program = list_any state_left_out program.parser.parse_states || pipeline_left_out program.pipelines.ingress || pipeline_left_out program.pipelines.egress
 

@@ -10,6 +10,7 @@ use Rattle.bm_records.specs.declared.raw.Pipelines.{Pipelines}
 use Rattle.bm_records.specs.declared.raw.RawProgram.{RawProgram}
 use Rattle.bm_json.specs.LeftOut.{type_named}
 
+-- how many fields a header type has; where there is none, 0
 abbrev pub fields_in : Option HeaderType → ℕ
 fields_in None = 0
 fields_in (Some type) = length type.fields

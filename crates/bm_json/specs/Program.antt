@@ -23,6 +23,7 @@ lists_state d = has_items (codes "register_arrays") d || has_items (codes "meter
 abbrev pub lists_stacks : Data → Bool
 lists_stacks d = has_items (codes "parse_vsets") d || has_items (codes "header_stacks") d || has_items (codes "header_unions") d || has_items (codes "header_union_stacks") d
 
+-- objects that are left out are listed: some of those above
 unfoldable pub lists_left_out : Data → Bool
 lists_left_out d = lists_state d || lists_stacks d
 
@@ -69,6 +70,7 @@ Finds view (Err e) read = Refused e read
 abbrev pub flaw_of : RawProgram → Option ℕ
 flaw_of program = if has_left_out program then Some 2 else if exceeds program then Some 3 else None
 
+-- the same where raw records are read, and L1 where none are
 abbrev pub flaw_by : Option RawProgram → Option ℕ
 flaw_by None = Some 1
 flaw_by (Some program) = flaw_of program

@@ -40,12 +40,14 @@ type_field_of d = do
   width ← item_at width_of 1 d
   Some (record { name = name; width = width_with signed width })
 
+-- a header type: its name and its fields
 unfoldable pub header_type_of : Data → Option HeaderType
 header_type_of d = do
   name ← required as_str (codes "name") d
   fields ← required (list_of type_field_of) (codes "fields") d
   Some (record { name = name; fields = fields })
 
+-- a header: its name, the name of its type, and whether it is metadata
 unfoldable pub header_of : Data → Option Header
 header_of d = do
   name ← required as_str (codes "name") d
@@ -53,6 +55,7 @@ header_of d = do
   metadata ← required as_bool (codes "metadata") d
   Some (record { name = name; header_type = header_type; metadata = metadata })
 
+-- an error by the first two items: its name and its number
 abbrev pub error_at : Data → Option ErrorNumber
 error_at d = do
   name ← item_at as_str 0 d
@@ -67,6 +70,7 @@ error_of d = item_count d >>= λ n. of_count 2 n (error_at d)
 abbrev pub size_by : Bool → Data → Option (Option ℕ)
 size_by is_direct d = if is_direct then Some None else required natural_of (codes "size") d >>= λ size. Some (Some size)
 
+-- a counter array: its name, whether it is direct, and its size where it is not
 unfoldable pub counter_of : Data → Option CounterArray
 counter_of d = do
   name ← required as_str (codes "name") d
@@ -74,21 +78,25 @@ counter_of d = do
   size ← size_by is_direct d
   Some (record { name = name; is_direct = is_direct; size = size })
 
+-- a literal that a calculation takes in, with its width
 unfoldable pub input_literal : Data → Option CalculationInput
 input_literal d = do
   value ← required literal_of (codes "value") d
   width ← required width_of (codes "bitwidth") d
   Some (inputs.Literal value width)
 
+-- an input of a calculation, by the kind of its value
 abbrev pub input_by : ValueKind → Data → Option CalculationInput
 input_by kinds.Field d = required field_name (codes "value") d >>= λ field. Some (inputs.Field field)
 input_by kinds.Literal d = input_literal d
 input_by kinds.LeftOut d = Some inputs.LeftOut
 input_by _ d = None
 
+-- an input of a calculation: a field, a literal or a form that is left out
 unfoldable pub input_of : Data → Option CalculationInput
 input_of d = kind_of d >>= λ kind. input_by kind d
 
+-- a calculation: its name, its algorithm and its inputs
 unfoldable pub calculation_of : Data → Option Calculation
 calculation_of d = do
   name ← required as_str (codes "name") d
@@ -107,6 +115,7 @@ checksum_of d = do
   if_cond ← optional expression_of (codes "if_cond") d
   Some (record { name = name; target = target; calculation = calculation; update = update; verify = unwrap_or verify true; if_cond = if_cond })
 
+-- a learn list: its name, its id and the fields of a digest
 unfoldable pub learn_list_of : Data → Option LearnList
 learn_list_of d = do
   name ← required as_str (codes "name") d

@@ -7,10 +7,12 @@ use Rattle.bm_records.specs.declared.operations.PrimitiveKind.TheVariants as pri
 use Rattle.bm_records.specs.declared.operations.ParserOpKind.{ParserOpKind}
 use Rattle.bm_records.specs.declared.operations.ParserOpKind.TheVariants as parser_ops
 
+-- a primitive that is left out by how its `op` begins: of clones, registers, assigned unions and jumps
 abbrev pub begins_left_out : List ℕ → Bool
 begins_left_out op =
     starts_with nat_eq op (codes "clone") || starts_with nat_eq op (codes "register_") || starts_with nat_eq op (codes "assign_union") || starts_with nat_eq op (codes "_jump")
 
+-- a primitive that is left out by its whole `op`
 abbrev pub is_named_left_out : List ℕ → Bool
 is_named_left_out op =
     bytes_eq op (codes "resubmit") || bytes_eq op (codes "recirculate") || bytes_eq op (codes "execute_meter") || bytes_eq op (codes "push") || bytes_eq op (codes "pop")

@@ -25,6 +25,7 @@ use Rattle.bm_values.specs.Values.{kind_of, field_value}
 use Rattle.bm_values.specs.Expressions.{expression_of}
 use Rattle.json_shapes.specs.Arrays.{of_count}
 
+-- the header that is extracted, by the kind of the parameter: just a regular one is served
 abbrev pub extracted_by : ValueKind → Data → Option (Part (List ℕ))
 extracted_by kinds.Regular d = required as_str (codes "value") d >>= λ header. Some (parts.Served header)
 extracted_by kinds.LeftOut d = Some parts.LeftOut
@@ -34,6 +35,7 @@ extracted_by _ d = None
 unfoldable pub extracted : Data → Option (Part (List ℕ))
 extracted d = item_at kind_of 0 d >>= λ kind. item_at (extracted_by kind) 0 d
 
+-- an operation `set`: the field that is set, and its value
 unfoldable pub set_of : Data → Option ParserOp
 set_of d = do
   target ← item_at field_value 0 d
@@ -47,6 +49,7 @@ parser_op_by ops.Set op n d = of_count 2 n (set_of d)
 parser_op_by ops.LeftOut op n d = Some parser_ops.LeftOut
 parser_op_by ops.Unknown op n d = Some (parser_ops.Unknown op)
 
+-- an operation of a parser's state, by its `op` and its parameters
 unfoldable pub parser_op_of : Data → Option ParserOp
 parser_op_of d = do
   op ← required as_str (codes "op") d
@@ -67,9 +70,11 @@ match_by (Some kind) d =
     else if bytes_eq kind (codes "parse_vset") then Some matches.LeftOut
     else None
 
+-- what a transition asks of the key
 unfoldable pub match_of : Data → Option MatchValue
 match_of d = unless_absent as_str (codes "type") d >>= λ kind. match_by kind d
 
+-- a transition: what it asks of the key, its mask and the next state, of which the last two may be null
 unfoldable pub transition_of : Data → Option Transition
 transition_of d = do
   value ← match_of d
@@ -77,6 +82,7 @@ transition_of d = do
   next_state ← required (nullable as_str) (codes "next_state") d
   Some (record { value = value; mask = mask; next_state = next_state })
 
+-- a parse state: its name, its operations, the fields of its key and its transitions
 unfoldable pub state_of : Data → Option ParseState
 state_of d = do
   name ← required as_str (codes "name") d
@@ -85,6 +91,7 @@ state_of d = do
   transitions ← required (list_of transition_of) (codes "transitions") d
   Some (record { name = name; parser_ops = parser_steps; transition_key = transition_key; transitions = transitions })
 
+-- a parser: the name of its initial state, and its states
 unfoldable pub parser_of : Data → Option Parser
 parser_of d = do
   init_state ← required as_str (codes "init_state") d

@@ -25,6 +25,7 @@ use Rattle.bm_values.specs.Literals.{literal_of}
 use Rattle.bm_values.specs.Values.{field_name, field_value}
 use Rattle.bm_values.specs.Expressions.{expression_of}
 
+-- the kind of a match, by its `match_type`
 abbrev pub match_kind : List ℕ → Option MatchKind
 match_kind text =
     if bytes_eq text (codes "exact") then Some match_kinds.Exact
@@ -43,6 +44,7 @@ key_field_of d = do
   _ ← unless_absent as_null (codes "mask") d
   Some (record { kind = kind; target = target })
 
+-- the kind of a table, by its `type`
 abbrev pub table_kind : List ℕ → Option TableKind
 table_kind text =
     if bytes_eq text (codes "simple") then Some table_kinds.Simple
@@ -55,6 +57,7 @@ abbrev pub profile_by : TableKind → Data → Option (Option (List ℕ))
 profile_by table_kinds.Simple d = Some None
 profile_by _ d = required as_str (codes "action_profile") d >>= λ name. Some (Some name)
 
+-- what follows on an outcome: a node by its name, the end of the pipeline where null stands, or nothing that is named
 abbrev pub next_by : Option (Option (List ℕ)) → Next
 next_by None = nexts.NotNamed
 next_by (Some None) = nexts.End
@@ -68,6 +71,7 @@ next_in name (Some d) =
     else if is_some (as_object d) then (unless_absent (nullable as_str) name d >>= λ given. Some (next_by given))
     else None
 
+-- what follows a table on an outcome, by its `next_tables`
 unfoldable pub next_at : List ℕ → Data → Option Next
 next_at name d = next_in name (get (codes "next_tables") d)
 
@@ -76,12 +80,14 @@ abbrev pub each_next : List (List ℕ) → Data → Option (List Next)
 each_next [] d = Some []
 each_next (name ∷ rest) d = next_at name d >>= λ next. each_next rest d >>= λ others. Some (next ∷ others)
 
+-- a default entry: the id of its action, and its action data
 unfoldable pub default_of : Data → Option DefaultEntry
 default_of d = do
   action_id ← required natural_of (codes "action_id") d
   action_data ← required (list_of literal_of) (codes "action_data") d
   Some (record { action_id = action_id; action_data = action_data })
 
+-- what is read, where there are as many of one as of the other
 abbrev pub if_as_many : {A : Type 0} → ℕ → ℕ → Option A → Option A
 if_as_many n m read = if n == m then read else None
 
@@ -103,17 +109,20 @@ table_of d = do
   has_entries ← filled (codes "entries") d
   Some (record { name = name; key = key; kind = kind; action_profile = action_profile; action_ids = action_ids; actions = actions; nexts = followers; hit = hit; miss = miss; base_default_next = base_default_next; default_entry = default_entry; has_entries = has_entries })
 
+-- a selector: the fields that are its input
 unfoldable pub selector_of : Data → Option Selector
 selector_of d = do
   input ← required (list_of field_value) (codes "input") d
   Some (record { input = input })
 
+-- an action profile: its name, and its selector where it has one
 unfoldable pub profile_of : Data → Option ActionProfile
 profile_of d = do
   name ← required as_str (codes "name") d
   selector ← optional selector_of (codes "selector") d
   Some (record { name = name; selector = selector })
 
+-- a conditional: its name, its expression, and what follows where it is true and where it is false
 unfoldable pub conditional_of : Data → Option Conditional
 conditional_of d = do
   name ← required as_str (codes "name") d
@@ -122,12 +131,14 @@ conditional_of d = do
   false_next ← required (nullable as_str) (codes "false_next") d
   Some (record { name = name; expression = expression; true_next = true_next; false_next = false_next })
 
+-- ingress or egress, by the name of a pipeline
 abbrev pub gress : List ℕ → Option Gress
 gress text =
     if bytes_eq text (codes "ingress") then Some gresses.Ingress
     else if bytes_eq text (codes "egress") then Some gresses.Egress
     else None
 
+-- a pipeline: its side, its first node, its tables, action profiles and conditionals; it has no action calls
 unfoldable pub pipeline_of : Data → Option Pipeline
 pipeline_of d = do
   text ← required as_str (codes "name") d
@@ -139,12 +150,14 @@ pipeline_of d = do
   _ ← nothing_in (codes "action_calls") d
   Some (record { gress = side; init_table = init_table; tables = tables; action_profiles = action_profiles; conditionals = conditionals })
 
+-- two pipelines in either order, one of which is the ingress and one the egress
 abbrev pub sides : Gress → Gress → Pipeline → Pipeline → Option Pipelines
 sides gresses.Ingress gresses.Egress first second = Some (record { ingress = first; egress = second })
 sides gresses.Egress gresses.Ingress first second = Some (record { ingress = second; egress = first })
 sides gresses.Ingress gresses.Ingress first second = None
 sides gresses.Egress gresses.Egress first second = None
 
+-- an ingress and an egress, in either order, as the first two items
 abbrev pub both_at : Data → Option Pipelines
 both_at d = do
   first ← item_at pipeline_of 0 d

@@ -21,6 +21,7 @@ use Rattle.json_shapes.specs.Arrays.{item_count, item_at, of_count}
 use Rattle.bm_values.specs.Values.{kind_of, field_value, header_value}
 use Rattle.bm_values.specs.Expressions.{expression_of}
 
+-- the name or the id of a learn list, by the kind of the value
 abbrev pub learn_list_by : ValueKind → Data → Option LearnListName
 learn_list_by kinds.LearnList d = required as_str (codes "value") d >>= λ name. Some (names.Name name)
 learn_list_by kinds.Literal d = required literal_of (codes "value") d >>= λ id. Some (names.Id id)
@@ -31,6 +32,7 @@ learn_list_by _ d = None
 unfoldable pub learn_list_name : Data → Option LearnListName
 learn_list_name d = kind_of d >>= λ kind. learn_list_by kind d
 
+-- the name of a counter array, by the kind of the value
 abbrev pub counter_by : ValueKind → Data → Option (Part (List ℕ))
 counter_by kinds.CounterArray d = required as_str (codes "value") d >>= λ name. Some (parts.Served name)
 counter_by kinds.LeftOut d = Some parts.LeftOut
@@ -40,18 +42,21 @@ counter_by _ d = None
 unfoldable pub counter_name : Data → Option (Part (List ℕ))
 counter_name d = kind_of d >>= λ kind. counter_by kind d
 
+-- an assignment to a field: the field and its value
 unfoldable pub assign_of : Data → Option Primitive
 assign_of d = do
   target ← item_at field_value 0 d
   value ← item_at expression_of 1 d
   Some (primitives.Assign target value)
 
+-- an assignment to a header: its target and its source
 unfoldable pub assign_header_of : Data → Option Primitive
 assign_header_of d = do
   target ← item_at header_value 0 d
   source ← item_at header_value 1 d
   Some (primitives.AssignHeader target source)
 
+-- a count: the counter array and the index in it
 unfoldable pub count_of : Data → Option Primitive
 count_of d = do
   counter ← item_at counter_name 0 d
@@ -71,6 +76,7 @@ primitive_by ops.NoOp op n d = Some primitives.NoOp
 primitive_by ops.LeftOut op n d = Some primitives.LeftOut
 primitive_by ops.Unknown op n d = Some (primitives.Unknown op)
 
+-- a primitive of an action, by its `op` and its parameters
 unfoldable pub primitive_of : Data → Option Primitive
 primitive_of d = do
   op ← required as_str (codes "op") d
@@ -78,11 +84,13 @@ primitive_of d = do
   n ← item_count parameters
   primitive_by (primitive_kind op) op n parameters
 
+-- a datum of an action: its width
 unfoldable pub datum_of : Data → Option Datum
 datum_of d = do
   width ← required width_of (codes "bitwidth") d
   Some (record { width = width })
 
+-- an action: its name, its id, its runtime data and its primitives
 unfoldable pub action_of : Data → Option Action
 action_of d = do
   name ← required as_str (codes "name") d

@@ -30,6 +30,7 @@ value_kind kind =
     else if is_left_out_kind kind then kinds.LeftOut
     else kinds.Other
 
+-- an operator of arithmetic or of a shift, by its name
 abbrev pub sum_operator : List ℕ → Option Operator
 sum_operator op =
     if bytes_eq op (codes "+") then Some operators.Add
@@ -39,6 +40,7 @@ sum_operator op =
     else if bytes_eq op (codes ">>") then Some operators.ShiftRight
     else None
 
+-- an operator on bits, by its name
 abbrev pub bit_operator : List ℕ → Option Operator
 bit_operator op =
     if bytes_eq op (codes "&") then Some operators.BitAnd
@@ -47,6 +49,7 @@ bit_operator op =
     else if bytes_eq op (codes "~") then Some operators.BitNot
     else None
 
+-- a comparison, by its name
 abbrev pub comparison : List ℕ → Option Operator
 comparison op =
     if bytes_eq op (codes "==") then Some operators.Equal
@@ -57,6 +60,7 @@ comparison op =
     else if bytes_eq op (codes ">=") then Some operators.GreaterOrEqual
     else None
 
+-- an operator of truth values by its name, with `d2b`, `b2d`, `valid` and `?`
 abbrev pub logic_operator : List ℕ → Option Operator
 logic_operator op =
     if bytes_eq op (codes "and") then Some operators.And
@@ -68,6 +72,7 @@ logic_operator op =
     else if bytes_eq op (codes "?") then Some operators.Choose
     else None
 
+-- the first of two where it is there, or else the second
 abbrev pub or_else : {A : Type 0} → Option A → Option A → Option A
 or_else None other = other
 or_else (Some x) other = Some x

@@ -21,6 +21,7 @@ abbrev pub hex_number : ℕ → List ℕ → Option ℕ
 hex_number number [] = Some number
 hex_number number (byte ∷ rest) = hex_digit byte >>= λ digit. hex_number (number * 16 + digit) rest
 
+-- all bytes are hex digits
 abbrev pub are_hex_digits : List ℕ → Bool
 are_hex_digits digits = list_all (λ byte. is_some (hex_digit byte)) digits
 
@@ -45,6 +46,7 @@ literal_of d = as_str d >>= literal_text
 abbrev pub width_in : ℕ → Option (Part ℕ)
 width_in bits = if bits == 0 then None else if nat_le bits 128 then Some (Served bits) else Some LeftOut
 
+-- a width by its text, which must be `*` and is left out, or else by its number
 abbrev pub width_by : Option (List ℕ) → Option ℕ → Option (Part ℕ)
 width_by (Some text) number = if bytes_eq text (codes "*") then Some LeftOut else None
 width_by None number = number >>= width_in

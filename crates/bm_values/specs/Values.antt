@@ -11,12 +11,14 @@ use Rattle.json_shapes.specs.Shapes.{◌>>=◌, required}
 use Rattle.json_shapes.specs.Arrays.{item_count, item_at}
 use Rattle.bm_values.specs.Kinds.{value_kind}
 
+-- the names of a header and of its field, as the first two items
 abbrev pub names_at : Data → Option FieldName
 names_at d = do
   header ← item_at as_str 0 d
   field ← item_at as_str 1 d
   Some (record { header = header; field = field })
 
+-- what is read, where there are two items
 abbrev pub if_two : {A : Type 0} → ℕ → Option A → Option A
 if_two n read = if n == 2 then read else None
 
@@ -34,6 +36,7 @@ field_by kinds.Field d = required field_name (codes "value") d >>= λ field. Som
 field_by kinds.LeftOut d = Some parts.LeftOut
 field_by _ d = None
 
+-- the same, by the value's own kind
 unfoldable pub field_value : Data → Option (Part FieldName)
 field_value d = kind_of d >>= λ kind. field_by kind d
 
@@ -43,5 +46,6 @@ header_by kinds.Header d = required as_str (codes "value") d >>= λ name. Some (
 header_by kinds.LeftOut d = Some parts.LeftOut
 header_by _ d = None
 
+-- the same, by the value's own kind
 unfoldable pub header_value : Data → Option (Part (List ℕ))
 header_value d = kind_of d >>= λ kind. header_by kind d

@@ -5,9 +5,11 @@ use Rattle.p4_types.specs.declared.p4info.P4Info.{P4Info}
 use Rattle.p4_types.specs.declared.p4info.Table.{Table}
 use Rattle.switch_spec.specs.Bridge.{bridge_table, forward_action, drop_action, named}
 
+-- the bridge's action that sends a frame to a port, its one parameter of 9 bits
 abbrev pub forward_message : Action
 forward_message = record { preamble = Some (named forward_action (codes "forward")); params = (record { id = 1; name = codes "port"; bitwidth = pos 9 }) ∷ [] }
 
+-- the bridge's action that drops a frame, without parameters
 abbrev pub drop_message : Action
 drop_message = record { preamble = Some (named drop_action (codes "drop")); params = [] }
 

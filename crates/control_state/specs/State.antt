@@ -29,6 +29,7 @@ abbrev pub plane_of : Option Program → Written → Option Plane
 plane_of None w = None
 plane_of (Some p) w = Some (record { info = p.info; entries = w.entries; changed = w.changed; program = p.defaults })
 
+-- the control state from its three parts, while the list of events goes on
 abbrev pub control_of : Fixed → Written → RolesState → Control
 control_of f w roles =
     record { device = f.device; cpu = f.cpu; rows = f.rows; roles = roles; plane = plane_of f.program w; next = w.next; next_slot = w.next_slot; closed = false }

@@ -28,6 +28,7 @@ pub record Kept (n : ℕ) (s : State (Unit {0}) Tally) : Type 0 where
   pub parts : parts_of s.views ≡ all_parts
   pub each : (id : ℕ) (v : Tally) → get_elem? s.views id ≡ some v → Agrees s.views v
 
+-- the first view: it has every part, and has added and noted nothing
 abbrev pub first_view : Tally
 first_view = record { parts = all_parts; added = []; noted = [] }
 
@@ -39,15 +40,19 @@ adding v i k = record { parts = v.parts; added = add_at v.added i k; noted = add
 abbrev pub noting : Tally → ℕ → ℕ → Tally
 noting v i n = record { parts = v.parts; added = v.added; noted = raise_at v.noted i n }
 
+-- the view after it gave a part away
 abbrev pub one_less : Tally → Tally
 one_less v = record { parts = v.parts - 1; added = v.added; noted = v.noted }
 
+-- a view with that part: it has added nothing, and knows what the other has noted
 abbrev pub one_part : Tally → Tally
 one_part v = record { parts = 1; added = []; noted = v.noted }
 
+-- the view after it took another in
 abbrev pub together : Tally → Tally → Tally
 together v w = record { parts = v.parts + w.parts; added = sums v.added w.added; noted = greater v.noted w.noted }
 
+-- what is left of the view that was taken in: no part, and nothing added or noted
 abbrev pub nobody : Tally
 nobody = record { parts = 0; added = []; noted = [] }
 

@@ -7,6 +7,7 @@ use Rattle.switch_spec.specs.Answer.{Answer}
 use Rattle.switch_spec.specs.Control.{Control, applied}
 use Rattle.switch_spec.specs.History.{is_unavailable}
 
+-- the control state, with how many steps and calls there were
 pub record Core : Type 0 where
   pub control : Control
   -- how many steps there were

@@ -2,7 +2,7 @@
 ghost use Rattle.std.specs.Prelude.{◌≡◌, ◌≤◌, ◌∷◌, [], false, length, IfOk, OnErr};
 ghost use Rattle.switch_spec.specs.Answer.{write_refusal, write_answer, written, unreadable, plain, failed, read_reply, answer_to, outcomes};
 ghost use Rattle.switch_spec.specs.Status.{capabilities_bytes};
-ghost use Rattle.switch_spec.specs.Control.{same_id, primary, bears, Legal};
+ghost use Rattle.switch_spec.specs.Control.{primary, is_of_primary, Legal};
 ghost use Rattle.switch_spec.specs.History.{is_unavailable};
 ghost use Rattle.switch_spec.specs.Reading.{read_result};
 ghost use Rattle.ctl_core.specs.Prepared.{IsPrepared, ChangesNothing, Leads, control_before, effect_unless};
@@ -18,27 +18,22 @@ use p4_types::code::{Code, NoMemory};
 use p4_types::events::{Event, Origin};
 use p4_types::list::{ByteList, List};
 use p4_types::messages::{ReadRequest, Uint128, WriteRequest};
-use role_arbiter::Roles;
+use role_arbiter::{Roles, election_number};
 use std::alloc::Global;
 use std::mem;
 
 /// How many updates a Write may have.
 const UPDATES: usize = 4_096;
 
-fn same_id(a: Uint128, b: Uint128) -> bool
-    ensures { result ≡ same_id a b }
-{
-    a.high == b.high && a.low == b.low
-}
-
 // Whether an election id is that of the role's primary, and not 0.
-fn bears(state: &State, role: u64, id: Uint128) -> bool
-    ensures { result ≡ bears (primary (control_in state.now) role) id }
+fn is_of_primary(state: &State, role: u64, id: Uint128) -> bool
+    ensures { result ≡ is_of_primary (primary (control_in state.now) role) id }
 {
     match state.roles.primary_session(role) {
         None => false,
-        Some(primary) => same_id(primary.election_id, id)
-            && !same_id(id, Uint128 { high: 0, low: 0 }),
+        Some(primary) => {
+            election_number(primary.election_id) == election_number(id) && election_number(id) != 0
+        }
     }
 }
 
@@ -49,7 +44,7 @@ fn write_refusal(state: &State, request: &WriteRequest) -> Option<Code>
     if request.device_id != state.fixed.device {
         return Some(Code::NotFound);
     }
-    if !bears(state, request.role_id, request.election_id) {
+    if !is_of_primary(state, request.role_id, request.election_id) {
         return Some(Code::PermissionDenied);
     }
     if state.fixed.program.is_none() {

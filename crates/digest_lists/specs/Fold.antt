@@ -18,6 +18,7 @@ abbrev pub inserted : List DigestState → DigestState → List DigestState
 inserted [] new = new ∷ []
 inserted (digest ∷ rest) new = if nat_lt new.id digest.id then new ∷ digest ∷ rest else digest ∷ inserted rest new
 
+-- a digest of this id is set
 abbrev pub is_set : List DigestState → ℕ → Bool
 is_set digests id = list_any (λ digest. digest.id == id) digests
 
@@ -39,9 +40,11 @@ HasRoom digests id (Some config) = length (with_config digests id config) ≤ 12
 abbrev pub take_sample : List DigestState → ℕ → P4Data → ℕ → List DigestState
 take_sample digests id content now = change_first (λ digest. digest.id == id) (λ digest. after_sample digest content now) digests
 
+-- the list that a sample makes due, if its digest is set and it does so
 abbrev pub sent_at_sample : List DigestState → ℕ → P4Data → ℕ → Option DigestList
 sent_at_sample digests id content now = option_and_then (λ digest. sent_by_sample digest content now) (find (λ digest. digest.id == id) digests)
 
+-- a list of a digest is acknowledged; where the digest is not set, nothing changes
 abbrev pub acknowledge : List DigestState → ℕ → ℕ → List DigestState
 acknowledge digests id list = change_first (λ digest. digest.id == id) (λ digest. after_ack digest list) digests
 
@@ -49,6 +52,7 @@ acknowledge digests id list = change_first (λ digest. digest.id == id) (λ dige
 abbrev pub send_due : List DigestState → ℕ → List DigestState
 send_due digests now = change_first (λ digest. is_due digest now) (λ digest. after_sending digest now) digests
 
+-- the list that a tick sends, if a digest is due
 abbrev pub sent_at_tick : List DigestState → ℕ → Option DigestList
 sent_at_tick digests now = option_map (λ digest. list_of digest now) (find (λ digest. is_due digest now) digests)
 
@@ -64,6 +68,7 @@ pub record Stepped : Type 0 where
   pub digests : List DigestState
   pub sent : Option DigestList
 
+-- what a call makes of the digests, and what it sends
 abbrev pub step : List DigestState → Call → Stepped
 step digests (Set id config) = record { digests = set_digest digests id config; sent = None }
 step digests (Sample id content now) = record { digests = take_sample digests id content now; sent = sent_at_sample digests id content now }
@@ -75,6 +80,7 @@ pub record Run : Type 0 where
   pub digests : List DigestState
   pub sent : List DigestList
 
+-- the run with one call more
 abbrev pub go_on : Run → Call → Run
 go_on run call = record { digests = (step run.digests call).digests; sent = run.sent ++ option_to_list (step run.digests call).sent }
 

@@ -17,6 +17,7 @@ pub record SameIsEqual : Type 0 where
   pub equal : (a b : P4Data) → same_data a b ≡ true → a ≡ b
   pub same : (a : P4Data) → same_data a a ≡ true
 
+-- the data of samples
 abbrev pub contents : List Sample → List P4Data
 contents samples = map (λ sample. sample.content) samples
 
@@ -111,5 +112,6 @@ worked_lists =
     ∷ record { digest_id = 7; list_id = 2; content = byte_of 1 ∷ []; timestamp = pos 170 }
     ∷ record { digest_id = 7; list_id = 3; content = byte_of 1 ∷ byte_of 3 ∷ []; timestamp = pos 172 } ∷ []
 
+-- the worked calls send just the worked lists
 abbrev pub WorkedRun : Type 0
 WorkedRun = (run_of worked_calls).sent ≡ worked_lists

@@ -66,9 +66,11 @@ after_sending digest now = record digest { gathered = drop (list_size digest.con
 abbrev pub with_sample : DigestState → P4Data → ℕ → DigestState
 with_sample digest content now = record digest { gathered = digest.gathered ++ record { content = content; taken_at = now } ∷ [] }
 
+-- the list that is sent, if there are enough samples
 abbrev pub sent_if_full : DigestState → ℕ → Option DigestList
 sent_if_full digest now = if is_full digest then Some (list_of digest now) else None
 
+-- the digest after that: with the list sent, or as it was
 abbrev pub after_if_full : DigestState → ℕ → DigestState
 after_if_full digest now = if is_full digest then after_sending digest now else digest
 

@@ -24,6 +24,7 @@ abbrev pub natural : ℤ → ℕ
 natural (pos n) = n
 natural (negsuc n) = 0
 
+-- a size, where 0 stands for 64
 abbrev pub size_or_64 : ℕ → ℕ
 size_or_64 size = if size == 0 then 64 else size
 

@@ -3,6 +3,7 @@ use Rattle.std.specs.Prelude.{ℕ}
 use Rattle.h2_frames.specs.declared.codes.H2Code.{H2Code}
 use Rattle.h2_frames.specs.declared.codes.H2Code.TheVariants as codes
 
+-- the number of an error code
 abbrev pub code_number : H2Code → ℕ
 code_number codes.NoError = 0
 code_number codes.ProtocolError = 1

@@ -20,6 +20,7 @@ pub record Begins (count number symbol length : ℕ) : Type 0 where
   pub whole : length ≤ count
   pub next : (rest : List ℕ) → text_of count number rest ≡ with_symbol (Some symbol) None (text_of (count - length) number rest)
 
+-- what stands at the front of these bits: a symbol and how many bits its code has, or no whole code
 abbrev pub IsFront : ℕ → ℕ → Option (ℕ × ℕ) → Type 0
 IsFront count number None = NoSymbol count number
 IsFront count number (Some x) = Begins count number x.0 x.1

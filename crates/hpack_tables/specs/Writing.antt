@@ -12,9 +12,11 @@ digits (suc more) value = if nat_lt value 128 then value ∷ [] else (value % 12
 abbrev pub length_bytes : ℕ → List ℕ
 length_bytes size = if nat_lt size 127 then size ∷ [] else 127 ∷ digits 10 (size - 127)
 
+-- a string as it stands, behind its length
 abbrev pub string_bytes : List ℕ → List ℕ
 string_bytes string = length_bytes (length string) ++ string
 
+-- a header as a literal without indexing, its name written out
 abbrev pub header_bytes : Header → List ℕ
 header_bytes header = 0 ∷ string_bytes header.name ++ string_bytes header.value
 

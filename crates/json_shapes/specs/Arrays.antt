@@ -10,6 +10,7 @@ abbrev pub count_of : Items → ℕ
 count_of no_items = 0
 count_of (item d ds) = suc (count_of ds)
 
+-- the same for a value, which must be an array
 unfoldable pub item_count : Data → Option ℕ
 item_count d = as_array d >>= λ ds. Some (count_of ds)
 
@@ -21,6 +22,7 @@ item_at shape place d = at place d >>= shape
 abbrev pub of_count : {A : Type 0} → ℕ → ℕ → Option A → Option A
 of_count wanted n read = if n == wanted then read else None
 
+-- the first item, as the only one
 abbrev pub first_of : {A : Type 0} → (Data → Option A) → Data → Option (Only A)
 first_of shape d = item_at shape 0 d >>= λ only. Some (record { only = only })
 

@@ -6,6 +6,7 @@ use Rattle.json_shapes.specs.declared.errors.ShapeError.{ShapeError}
 use Rattle.json_shapes.specs.declared.errors.ShapeError.TheVariants.{NoMemory, Shape}
 
 infixl 10 ◌>>=◌
+-- what is read on where something was read, or else nothing
 abbrev pub ◌>>=◌ : {A B : Type 0} → Option A → (A → Option B) → Option B
 (Some x) >>= f = f x
 None >>= f = None
@@ -45,6 +46,7 @@ if_given shape (Some d) = shape d
 unfoldable pub optional : {A : Type 0} → (Data → Option A) → List ℕ → Data → Option (Option A)
 optional shape name d = if_given (nullable shape) (get name d)
 
+-- the list, or an empty one where there is none
 abbrev pub or_empty : {A : Type 0} → Option (List A) → List A
 or_empty None = []
 or_empty (Some xs) = xs
@@ -61,6 +63,7 @@ unless_absent shape name d = if_given (λ given. shape given >>= λ x. Some (Som
 unfoldable pub list_unless_absent : {A : Type 0} → (Data → Option A) → List ℕ → Data → Option (List A)
 list_unless_absent shape name d = unless_absent (list_of shape) name d >>= λ found. Some (or_empty found)
 
+-- there is an item
 abbrev pub are_items : Items → Bool
 are_items no_items = false
 are_items (item d ds) = true
@@ -74,6 +77,7 @@ is_filled (Some d) = unwrap_or (option_map are_items (as_array d)) false
 unfoldable pub has_items : List ℕ → Data → Bool
 has_items name d = is_filled (get name d)
 
+-- nothing is given, or an array
 abbrev pub none_or_array : Option Data → Option ⊤
 none_or_array None = Some tt
 none_or_array (Some d) = as_array d >>= λ _. Some tt

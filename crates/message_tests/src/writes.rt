@@ -6,7 +6,7 @@ use crate::{programs, write_rows};
 use p4_types::calls::Call;
 use p4_types::code::{Cause, NoMemory};
 use p4_types::messages::Update;
-use p4_types::table::{Change, Entry, EntryChange, EntryName, Mark, Room};
+use p4_types::table::{Change, Entry, EntryChange, EntryName, Room};
 use p4info_model::{InfoError, P4Info, read_info};
 use p4v1_read::read_call;
 use std::alloc::Global;
@@ -34,7 +34,7 @@ fn tell_refusal(told: &mut String, error: StoreError) {
     }
 }
 
-pub(crate) fn tell_change(told: &mut String, made: Result<Mark, StoreError>) {
+pub(crate) fn tell_change(told: &mut String, made: Result<(), StoreError>) {
     match made {
         Ok(_) => say(told, "ok "),
         Err(error) => tell_refusal(told, error),

@@ -3,6 +3,7 @@ use Rattle.std.specs.Prelude.{ℕ}
 use Rattle.p4_types.specs.declared.code.Code.{Code}
 use Rattle.p4_types.specs.declared.code.Code.TheVariants as codes
 
+-- the number of a code
 abbrev pub code_number : Code → ℕ
 code_number codes.Ok = 0
 code_number codes.Cancelled = 1

@@ -97,7 +97,3 @@ pub struct Room {
     pub slots: u32,
     pub numbers: u64,
 }
-
-/// What undoes a change. A change is not undone in place yet.
-#[derive(Clone, Copy)]
-pub struct Mark;

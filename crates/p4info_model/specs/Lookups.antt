@@ -14,24 +14,31 @@ use Rattle.p4_types.specs.declared.info.DirectCounter.{DirectCounter}
 use Rattle.p4_types.specs.declared.info.Info.{Info}
 use Rattle.p4_types.specs.declared.info.Table.{Table}
 
+-- the first table of this id, if there is one
 abbrev pub table_at : Info → ℕ → Option Table
 table_at info id = find (λ x. x.preamble.id == id) info.tables
 
+-- the first action of this id, if there is one
 abbrev pub action_at : Info → ℕ → Option Action
 action_at info id = find (λ x. x.preamble.id == id) info.actions
 
+-- the first action profile of this id, if there is one
 abbrev pub profile_at : Info → ℕ → Option ActionProfile
 profile_at info id = find (λ x. x.preamble.id == id) info.action_profiles
 
+-- the first indirect counter of this id, if there is one
 abbrev pub counter_at : Info → ℕ → Option Counter
 counter_at info id = find (λ x. x.preamble.id == id) info.counters
 
+-- the first direct counter of this id, if there is one
 abbrev pub direct_counter_at : Info → ℕ → Option DirectCounter
 direct_counter_at info id = find (λ x. x.preamble.id == id) info.direct_counters
 
+-- the first digest of this id, if there is one
 abbrev pub digest_at : Info → ℕ → Option Digest
 digest_at info id = find (λ x. x.preamble.id == id) info.digests
 
+-- the first header for a controller of this name, if there is one
 abbrev pub header_named : Info → List ℕ → Option ControllerHeader
 header_named info name = find (λ x. bytes_eq x.preamble.name name) info.controller_packet_metadata
 

@@ -10,9 +10,11 @@ use Rattle.p4_types.specs.declared.p4info.Preamble.{Preamble}
 abbrev pub preamble_of : Option Preamble → Preamble
 preamble_of given = unwrap_or given (record { id = 0; name = []; alias = []; annotations = [] })
 
+-- the id in the preamble of an object, 0 where it has no preamble
 abbrev pub id_of : Option Preamble → ℕ
 id_of given = (preamble_of given).id
 
+-- the name in the preamble of an object, empty where it has no preamble
 abbrev pub name_of : Option Preamble → List ℕ
 name_of given = (preamble_of given).name
 

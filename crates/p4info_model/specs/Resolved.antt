@@ -31,12 +31,15 @@ use Rattle.p4_types.specs.declared.info.Table.{Table}
 use Rattle.p4info_model.specs.Numbers.{width_of, size_of, kind_of, scope_of, named}
 use Rattle.p4info_model.specs.Objects.{preamble_of}
 
+-- a field of a table's key, with its width and its match kind
 abbrev pub field_of : message_field.MatchField → MatchField
 field_of f = record { id = f.id; name = f.name; bitwidth = unwrap_or (width_of f.bitwidth) 1; kind = unwrap_or (kind_of f.match_type) kinds.Exact }
 
+-- an action that a table may run, with its scope
 abbrev pub ref_of : message_ref.ActionRef → ActionRef
 ref_of r = record { id = r.id; scope = unwrap_or (scope_of r.scope) scopes.TableAndDefault }
 
+-- a table with its key and its actions; id 0 names no const default action and no action profile
 abbrev pub table_of : message_table.Table → Table
 table_of t = record {
   preamble = preamble_of t.preamble;
@@ -50,12 +53,15 @@ table_of t = record {
   is_const_table = t.is_const_table;
 }
 
+-- a parameter of an action, with its width
 abbrev pub param_of : message_param.Param → Param
 param_of p = record { id = p.id; name = p.name; bitwidth = unwrap_or (width_of p.bitwidth) 1 }
 
+-- an action with its parameters
 abbrev pub action_of : message_action.Action → Action
 action_of a = record { preamble = preamble_of a.preamble; params = map param_of a.params }
 
+-- an action profile, with its size and the limit of its groups
 abbrev pub profile_of : message_profile.ActionProfile → ActionProfile
 profile_of p = record {
   preamble = preamble_of p.preamble;
@@ -69,15 +75,19 @@ profile_of p = record {
 abbrev pub unit_of : Option message_spec.CounterSpec → ℤ
 unit_of given = unwrap_or (option_map (λ x. x.unit) given) (pos 0)
 
+-- an indirect counter, with what it counts and its size
 abbrev pub counter_of : message_counter.Counter → Counter
 counter_of c = record { preamble = preamble_of c.preamble; unit = unit_of c.spec; size = unwrap_or (size_of c.size) 0 }
 
+-- a direct counter, with what it counts and its table
 abbrev pub direct_counter_of : message_direct.DirectCounter → DirectCounter
 direct_counter_of c = record { preamble = preamble_of c.preamble; unit = unit_of c.spec; table = c.direct_table_id }
 
+-- a field of a header for a controller, with its width
 abbrev pub header_field_of : message_metadata.Metadata → HeaderField
 header_field_of m = record { id = m.id; name = m.name; bitwidth = unwrap_or (width_of m.bitwidth) 1 }
 
+-- a header for a controller, with its fields
 abbrev pub header_of : message_header.ControllerPacketMetadata → ControllerHeader
 header_of h = record { preamble = preamble_of h.preamble; fields = map header_field_of h.metadata }
 
@@ -87,6 +97,7 @@ carried None = None
 carried (Some []) = None
 carried (Some (byte ∷ bytes)) = Some (byte ∷ bytes)
 
+-- a digest, whose type is carried unread
 abbrev pub digest_of : message_digest.Digest → Digest
 digest_of d = record { preamble = preamble_of d.preamble; type_spec = carried d.type_spec }
 

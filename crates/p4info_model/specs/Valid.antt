@@ -32,6 +32,7 @@ pub record IsValidTable (info : Info) (t : Table) : Type 0 where
   pub profile : IfSome t.action_profile (λ id. IsSome (profile_at info id))
   pub counters : All (λ id. IsSome (direct_counter_at info id)) t.direct_counters
 
+-- an action of at most 8 parameters, each with a width and an id of its own
 pub record IsValidAction (a : Action) : Type 0 where
   pub widths : All (λ x. IsWidth x.bitwidth) a.params
   pub params : AreApart (map (λ x. x.id) a.params)

@@ -20,6 +20,7 @@ pub record Streams : Type 0 where
   pub read_faults : ℕ
   pub write_faults : ℕ
 
+-- the source and the sink with this left to read and this written, which have failed so often
 abbrev pub streams : Option (List ℕ) → Option (List ℕ) → ℕ → ℕ → Streams
 streams left sent read_faults write_faults = record { left = left; sent = sent; read_faults = read_faults; write_faults = write_faults }
 

@@ -51,6 +51,7 @@ pub record IsTold (lines : Lines) (status : Status) : Type 0 where
   pub answer : Sent
   pub said : IsSaid lines.before lines.after lines.faults_before lines.faults_after answer (status_line status)
 
+-- a sink of lines that had been sent these before and after, and had failed so often
 abbrev pub lines : Option (List ℕ) → Option (List ℕ) → ℕ → ℕ → Lines
 lines before after faults_before faults_after = record { before = before; after = after; faults_before = faults_before; faults_after = faults_after }
 

@@ -17,6 +17,7 @@ use Rattle.switch_spec.specs.History.{step_of}
 use Rattle.switch_spec.specs.Play.{Played, Turn, Answers, Refuses, Carries, items_of, play, played}
 use Rattle.p4switch_run.specs.Tallies.{Tallies}
 
+-- what the program keeps of a run: its control and counts, its events, the journal, and the records of packets
 pub record State : Type 0 where
   pub core : Core
   -- with what it started, and the events since then
@@ -25,6 +26,7 @@ pub record State : Type 0 where
   pub journal : List Entry
   pub records : List Record
 
+-- the run so far that is kept
 abbrev pub played_of : State → Played
 played_of s = record { control = s.core.control; steps = s.core.steps; journal = s.journal; records = s.records }
 
@@ -51,6 +53,7 @@ PlaysCall p lane call q = (q ≡ play p (Answers lane call)) ⊎ (q ≡ play p (
 abbrev pub entry_of : ℕ → ℕ → List Step → Reply → Entry
 entry_of lane k steps reply = record { lane = lane; call = k; steps = steps; reply = reply }
 
+-- the same state with this journal
 abbrev pub with_journal : State → List Entry → State
 with_journal s journal = record s { journal = journal }
 

@@ -26,12 +26,15 @@ use Rattle.p4v1_wire.specs.StreamRows.{role_rows}
 use Rattle.p4v1_wire.specs.ResponseRows.{cookie_rows}
 use Rattle.p4v1_wire.specs.ReadBack.{counted, itself}
 
+-- an ActionProfileAction: its action is not given where all fields of the action are defaults
 abbrev pub profile_action_counted : ActionProfileAction → ActionProfileAction
 profile_action_counted m = record m { action = counted action_rows itself m.action }
 
+-- an ActionProfileActionSet: each of its actions as above
 abbrev pub action_set_counted : ActionProfileActionSet → ActionProfileActionSet
 action_set_counted m = record m { action_profile_actions = map profile_action_counted m.action_profile_actions }
 
+-- a TableAction, a choice that may have no member: its member stays, an ActionProfileActionSet as above
 abbrev pub table_action_counted : Option TableAction → Option TableAction
 table_action_counted None = None
 table_action_counted (Some (actions.Action action)) = Some (actions.Action action)
@@ -39,15 +42,19 @@ table_action_counted (Some (actions.ActionProfileMemberId id)) = Some (actions.A
 table_action_counted (Some (actions.ActionProfileGroupId id)) = Some (actions.ActionProfileGroupId id)
 table_action_counted (Some (actions.ActionProfileActionSet set)) = Some (actions.ActionProfileActionSet (action_set_counted set))
 
+-- a TableEntry: an action (as above) without a member, and counter data of defaults alone, are not given
 abbrev pub table_entry_counted : TableEntry → TableEntry
 table_entry_counted m = record m { action = counted table_action_rows table_action_counted m.action; counter_data = counted counter_data_rows itself m.counter_data }
 
+-- an ActionProfileMember: its action is not given where all fields of the action are defaults
 abbrev pub profile_member_counted : ActionProfileMember → ActionProfileMember
 profile_member_counted m = record m { action = counted action_rows itself m.action }
 
+-- a CounterEntry: its data are not given where both counts are 0
 abbrev pub counter_entry_counted : CounterEntry → CounterEntry
 counter_entry_counted m = record m { content = counted counter_data_rows itself m.content }
 
+-- a DirectCounterEntry: a table entry (as above) of defaults alone, and data of which both counts are 0, are not given
 abbrev pub direct_counter_entry_counted : DirectCounterEntry → DirectCounterEntry
 direct_counter_entry_counted m = record { table_entry = counted table_entry_rows table_entry_counted m.table_entry; content = counted counter_data_rows itself m.content }
 
@@ -61,24 +68,31 @@ entity_counted (entities.DirectCounterEntry m) = Some (entities.DirectCounterEnt
 entity_counted (entities.DigestEntry m) = Some (entities.DigestEntry m)
 entity_counted (entities.Other member) = None
 
+-- a Role: its config is not given where its type URL and its value are empty
 abbrev pub role_counted : Role → Role
 role_counted m = record m { config = counted any_rows itself m.config }
 
+-- a MasterArbitrationUpdate: its role (as above) is not given where its id is 0 and it has no config
 abbrev pub arbitration_counted : MasterArbitrationUpdate → MasterArbitrationUpdate
 arbitration_counted m = record m { role = counted role_rows role_counted m.role }
 
+-- a ForwardingPipelineConfig: its P4Info is not given where it has no bytes, and its cookie where it is 0
 abbrev pub config_counted : ForwardingPipelineConfig → ForwardingPipelineConfig
 config_counted m = record m { p4info = sent (payloads (Carried m.p4info)); cookie = counted cookie_rows itself m.cookie }
 
+-- an IdleTimeoutNotification: each of its table entries as above
 abbrev pub idle_timeout_counted : IdleTimeoutNotification → IdleTimeoutNotification
 idle_timeout_counted m = record m { table_entry = map table_entry_counted m.table_entry }
 
+-- a GetForwardingPipelineConfigResponse: its config, taken as above, stays given
 abbrev pub get_response_counted : GetForwardingPipelineConfigResponse → GetForwardingPipelineConfigResponse
 get_response_counted m = record m { config = option_map config_counted m.config }
 
+-- a ReadResponse: each of its entities as above
 abbrev pub read_response_counted : ReadResponse → List (Option Entity)
 read_response_counted m = map entity_counted m.entities
 
+-- a StreamMessageResponse: its member stays, an arbitration or an idle timeout as above
 abbrev pub stream_counted : StreamMessageResponse → Option StreamMessageResponse
 stream_counted (responses.Arbitration m) = Some (responses.Arbitration (arbitration_counted m))
 stream_counted (responses.Packet m) = Some (responses.Packet m)

@@ -22,12 +22,15 @@ use Rattle.p4v1_wire.specs.Rows.{fields_by}
 abbrev pub already_there : Error
 already_there = record { canonical_code = pos 6; message = []; space = codes "p4switch"; code = pos 10; details = [] }
 
+-- the canonical bytes of that Error
 abbrev pub already_there_bytes : List ℕ
 already_there_bytes = 0x08 ∷ 0x06 ∷ 0x1a ∷ 0x08 ∷ 0x70 ∷ 0x34 ∷ 0x73 ∷ 0x77 ∷ 0x69 ∷ 0x74 ∷ 0x63 ∷ 0x68 ∷ 0x20 ∷ 0x0a ∷ []
 
+-- the Status of that Write: UNKNOWN, with the Error as its one detail
 abbrev pub refused_write : Status
 refused_write = record { code = pos 2; message = []; details = record { type_url = codes "type.googleapis.com/p4.v1.Error"; value = already_there_bytes } ∷ [] }
 
+-- the canonical bytes of that Status
 abbrev pub refused_write_bytes : List ℕ
 refused_write_bytes =
     0x08 ∷ 0x02 ∷ 0x1a ∷ 0x31 ∷ 0x0a ∷ 0x1f ∷ 0x74 ∷ 0x79 ∷ 0x70 ∷ 0x65 ∷ 0x2e ∷ 0x67 ∷ 0x6f ∷ 0x6f ∷ 0x67 ∷ 0x6c ∷ 0x65 ∷ 0x61 ∷ 0x70 ∷ 0x69 ∷ 0x73 ∷ 0x2e ∷ 0x63 ∷ 0x6f ∷ 0x6d ∷ 0x2f ∷ 0x70 ∷ 0x34 ∷ 0x2e ∷ 0x76 ∷ 0x31 ∷ 0x2e ∷ 0x45 ∷ 0x72 ∷ 0x72 ∷ 0x6f ∷ 0x72 ∷ 0x12 ∷ 0x0e ∷ already_there_bytes
@@ -44,6 +47,7 @@ packet_refused = responses.Error (record { canonical_code = pos 7; message = [];
 abbrev pub cookie_only : GetForwardingPipelineConfigResponse
 cookie_only = record { config = Some (record { p4info = None; p4_device_config = []; cookie = Some (record { cookie = 7 }) }) }
 
+-- the answer to Capabilities: version 1.3.0 of P4Runtime
 abbrev pub version : CapabilitiesResponse
 version = record { p4runtime_api_version = codes "1.3.0" }
 
@@ -51,6 +55,7 @@ version = record { p4runtime_api_version = codes "1.3.0" }
 abbrev pub sample : P4Data
 sample = data_kinds.Struct ((0xaa ∷ []) ∷ (0x05 ∷ []) ∷ [])
 
+-- a ternary match of field 1: the value 0x63 under the mask 0xff
 abbrev pub ternary_match : FieldMatch
 ternary_match = record { field_id = 1; kind = Some (kinds.Ternary (0x63 ∷ []) (0xff ∷ [])) }
 

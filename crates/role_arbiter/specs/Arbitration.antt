@@ -19,9 +19,11 @@ has_other_role sessions caller role = list_any (λ session. (session.caller == c
 abbrev pub id_is_taken : List Session → ℕ → ℕ → Uint128 → Bool
 id_is_taken sessions caller role id = list_any (λ session. not (session.caller == caller) && bears role id session) sessions
 
+-- the caller has a live session
 abbrev pub has_session : List Session → ℕ → Bool
 has_session sessions caller = list_any (λ session. session.caller == caller) sessions
 
+-- the role was named before
 abbrev pub is_named : List NamedRole → ℕ → Bool
 is_named named role = list_any (λ known. known.role == role) named
 

@@ -80,12 +80,15 @@ after_update state caller id = arbitrated state (asked caller (plain_update id))
 abbrev pub with_one : RolesState
 with_one = after_update no_roles 0 5
 
+-- the state after lane 1 arbitrated with 3
 abbrev pub with_two : RolesState
 with_two = after_update with_one 1 3
 
+-- the state after lane 0 left
 abbrev pub without_first : RolesState
 without_first = left with_two 0
 
+-- the state after lane 1 arbitrated with 6
 abbrev pub with_second : RolesState
 with_second = after_update without_first 1 6
 

@@ -8,6 +8,7 @@ use Rattle.role_arbiter.specs.declared.sessions.Session.{Session}
 use Rattle.role_arbiter.specs.declared.sessions.NamedRole.{NamedRole}
 use Rattle.role_arbiter.specs.Election.{election_number}
 
+-- who may write: the live sessions, and what the roles that were named received
 pub record RolesState : Type 0 where
   -- the live sessions, by rising caller
   pub sessions : List Session
@@ -22,6 +23,7 @@ no_roles = record { sessions = []; named = [] }
 abbrev pub session_in : List Session → ℕ → Option Session
 session_in sessions caller = find (λ session. session.caller == caller) sessions
 
+-- the greatest election id that a named role received, 0 for a role that was not named
 abbrev pub greatest_or_zero : Option NamedRole → Uint128
 greatest_or_zero None = record { high = 0; low = 0 }
 greatest_or_zero (Some known) = known.greatest
@@ -47,6 +49,7 @@ abbrev pub status_by : Option Session → ℕ → Code
 status_by None caller = codes.NotFound
 status_by (Some primary) caller = if primary.caller == caller then codes.Ok else codes.AlreadyExists
 
+-- the status of this session, if there is one
 abbrev pub status_in : Option Session → RolesState → Option Code
 status_in None state = None
 status_in (Some session) state = Some (status_by (primary_of state session.role) session.caller)

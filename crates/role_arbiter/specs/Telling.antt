@@ -36,10 +36,12 @@ told_at_arbitration state new = with_others (differs (primary_of state new.role)
 abbrev pub others_of : ℕ → ℕ → List Session → List ℕ
 others_of caller role sessions = callers_where (λ session. not (session.caller == caller) && (session.role == role)) sessions
 
+-- there is a session, and it is this caller's
 abbrev pub is_caller : ℕ → Option Session → Bool
 is_caller caller None = false
 is_caller caller (Some session) = session.caller == caller
 
+-- who is told that this session ends: all others of its role where it was the primary, else nobody
 abbrev pub told_by_end : Option Session → RolesState → List ℕ
 told_by_end None state = []
 told_by_end (Some ended) state = if is_caller ended.caller (primary_of state ended.role) then others_of ended.caller ended.role state.sessions else []

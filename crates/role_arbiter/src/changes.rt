@@ -5,7 +5,7 @@ ghost use Rattle.role_arbiter.specs.Arbitration.{has_other_role, id_is_taken, ha
 ghost use Rattle.role_arbiter.specs.Telling.{with_others, others_of};
 
 use crate::numbers::{Lanes, SESSION_LIMIT};
-use crate::sessions::{NamedRole, Session, number};
+use crate::sessions::{NamedRole, Session, election_number};
 use p4_types::messages::Uint128;
 
 /// The most roles that are ever named.
@@ -22,12 +22,12 @@ pub(crate) fn has_other_role(sessions: &[Session], caller: u16, role: u64) -> bo
 pub(crate) fn id_is_taken(sessions: &[Session], caller: u16, role: u64, id: Uint128) -> bool
     ensures { result ≡ id_is_taken sessions.now caller role id }
 {
-    let id = number(id);
+    let id = election_number(id);
     sessions.iter().any(|session| {
         session.caller != caller
             && session.role == role
-            && number(session.election_id) != 0
-            && number(session.election_id) == id
+            && election_number(session.election_id) != 0
+            && election_number(session.election_id) == id
     })
 }
 
@@ -112,7 +112,11 @@ pub(crate) fn put(sessions: &mut Vec<Session>, session: Session)
 fn greater(a: Uint128, b: Uint128) -> Uint128
     ensures { result ≡ greater a b }
 {
-    if number(a) < number(b) { b } else { a }
+    if election_number(a) < election_number(b) {
+        b
+    } else {
+        a
+    }
 }
 
 #[tactic(auto, using(crate::proofs::Places::receive_at))]

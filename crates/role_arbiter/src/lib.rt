@@ -10,4 +10,4 @@ mod sessions;
 
 pub use arbiter::Roles;
 pub use numbers::{Ids, Lanes};
-pub use sessions::{NamedRole, Session};
+pub use sessions::{NamedRole, Session, election_number};

@@ -31,7 +31,8 @@ pub struct NamedRole {
     pub greatest: Uint128,
 }
 
-pub(crate) fn number(id: Uint128) -> u128
+/// An election id as the number by which ids are compared.
+pub fn election_number(id: Uint128) -> u128
     ensures { result ≡ election_number id }
 {
     u128::from(id.high) * (1 << 64) + u128::from(id.low)
@@ -65,11 +66,11 @@ pub(crate) fn primary_in<'a>(
 ) -> Option<&'a Session>
     ensures { option_copied result ≡ primary_in sessions.now named.now role }
 {
-    let greatest = number(greatest_in(named, role));
+    let greatest = election_number(greatest_in(named, role));
     sessions.iter().find(|session| {
         session.role == role
-            && number(session.election_id) != 0
-            && number(session.election_id) == greatest
+            && election_number(session.election_id) != 0
+            && election_number(session.election_id) == greatest
     })
 }
 
@@ -90,7 +91,7 @@ pub(crate) fn differs(before: Option<&Session>, after: Option<&Session>) -> bool
         (None, None) => false,
         (Some(before), Some(after)) => {
             before.caller != after.caller
-                || number(before.election_id) != number(after.election_id)
+                || election_number(before.election_id) != election_number(after.election_id)
                 || !same_config(&before.config, &after.config)
         }
         _ => true,

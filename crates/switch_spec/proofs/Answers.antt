@@ -29,7 +29,7 @@ use Rattle.role_arbiter.specs.declared.sessions.Session.{Session}
 use Rattle.role_arbiter.specs.Arbitration.{cause, asked}
 use Rattle.role_arbiter.specs.State.{session_in}
 use Rattle.switch_spec.specs.Answer.{Answer, LaneCall, plain, write_reply, write_refusal, write_unless, continued, all_or_nothing, batch, origin, has_failed, outcomes, state_after, is_atomicity, is_atomic, read_reply, arbitration_unless, unserved_answer, stream_answer, leave_of, answer_to, answer, called}
-use Rattle.switch_spec.specs.Control.{Control, Plane, primary, bears, with_roles, inserted_in, changed, changed_unless, changed_in, change_applied, outcome, applied, MayChanges, Legal}
+use Rattle.switch_spec.specs.Control.{Control, Plane, primary, is_of_primary, with_roles, inserted_in, changed, changed_unless, changed_in, change_applied, outcome, applied, MayChanges, Legal}
 use Rattle.switch_spec.specs.Objects.{table_of}
 use Rattle.switch_spec.specs.Reading.{entry_refusal_in, entity_refusal, first_of, read_unless, read_in, read_result}
 use Rattle.switch_spec.specs.History.{is_unavailable, steps_of}
@@ -76,8 +76,8 @@ unfolding change_applied
 change_steady change c = in_steady c.plane change c refl
 
 -- as the roles stay, so do the primaries
-still_bears : (c d : Control) (role : ℕ) (id : Uint128) → d.roles ≡ c.roles → bears (primary d role) id ≡ bears (primary c role) id
-still_bears c d role id is = ap (λ roles. bears (primary (with_roles c roles) role) id) is
+still_of_primary : (c d : Control) (role : ℕ) (id : Uint128) → d.roles ≡ c.roles → is_of_primary (primary d role) id ≡ is_of_primary (primary c role) id
+still_of_primary c d role id is = ap (λ roles. is_of_primary (primary (with_roles c roles) role) id) is
 
 fold_closed : (list : List Change) (c : Control) → (fold change_applied c list).closed ≡ c.closed
 fold_closed [] c = refl
@@ -117,15 +117,15 @@ made_few [] c role = omega arith
 made_few (update ∷ updates) c role = few_more (outcome c role update) c role updates (λ d. made_few updates d role)
 
 -- one more may be made, where the rest may be in the state behind it
-may_more : (r : Result Change Cause) (c : Control) (by : Origin) (update : Update) (updates : List Update) → bears (primary c by.role) by.election_id ≡ true → outcome c by.role update ≡ r
-    → ((d : Control) → bears (primary d by.role) by.election_id ≡ true → MayChanges d by (made_by d by.role updates))
+may_more : (r : Result Change Cause) (c : Control) (by : Origin) (update : Update) (updates : List Update) → is_of_primary (primary c by.role) by.election_id ≡ true → outcome c by.role update ≡ r
+    → ((d : Control) → is_of_primary (primary d by.role) by.election_id ≡ true → MayChanges d by (made_by d by.role updates))
     → MayChanges c by (filter_map result_ok (r ∷ outcomes (state_after c r) by.role updates))
 may_more (Ok change) c by update updates h is rest =
-    (record { by_primary = h; update = update; no_cause = is }, rest (change_applied c change) (still_bears c (change_applied c change) by.role by.election_id (change_steady change c).roles ∙ h))
+    (record { by_primary = h; update = update; no_cause = is }, rest (change_applied c change) (still_of_primary c (change_applied c change) by.role by.election_id (change_steady change c).roles ∙ h))
 may_more (Err cause) c by update updates h is rest = rest c h
 
 -- they may be made, each in its turn
-made_may : (updates : List Update) (c : Control) (by : Origin) → bears (primary c by.role) by.election_id ≡ true → MayChanges c by (made_by c by.role updates)
+made_may : (updates : List Update) (c : Control) (by : Origin) → is_of_primary (primary c by.role) by.election_id ≡ true → MayChanges c by (made_by c by.role updates)
 made_may [] c by h = tt
 made_may (update ∷ updates) c by h = may_more (outcome c by.role update) c by update updates h refl (λ d. made_may updates d by)
 
@@ -206,7 +206,7 @@ first_available info (asked ∷ list) = first_more (entity_refusal info asked) _
 
 -- what a refused Write has passed
 record HasPassed (c : Control) (request : WriteRequest) : Type 0 where
-  primary : bears (primary c request.role_id) request.election_id ≡ true
+  primary : is_of_primary (primary c request.role_id) request.election_id ≡ true
   size : length request.updates ≤ 4096
 
 passed_by : (a b c d e : Bool) → refusal_by a b c d e ≡ None → (b ≡ true) × (e ≡ false)
@@ -222,7 +222,7 @@ not_lt m n h = grind (arith, h)
 
 passed : (c : Control) (request : WriteRequest) → write_refusal c request ≡ None → HasPassed c request
 passed c request h =
-    let parts = passed_by (request.device_id == c.device) (bears (primary c request.role_id) request.election_id) (is_some c.plane) (is_atomicity request.atomicity) (nat_lt 4096 (length request.updates)) h in record { primary = parts.0; size = not_lt _ _ parts.1 }
+    let parts = passed_by (request.device_id == c.device) (is_of_primary (primary c request.role_id) request.election_id) (is_some c.plane) (is_atomicity request.atomicity) (nat_lt 4096 (length request.updates)) h in record { primary = parts.0; size = not_lt _ _ parts.1 }
 
 reply_available : (b : Bool) (errors : List (List ℕ)) → is_unavailable (write_reply b errors).code ≡ false
 reply_available true errors = refl
@@ -232,7 +232,7 @@ reply_packet : (b : Bool) (errors : List (List ℕ)) → (write_reply b errors).
 reply_packet true errors = refl
 reply_packet false errors = refl
 
-continued_sound : (c : Control) (by : Origin) (updates : List Update) → bears (primary c by.role) by.election_id ≡ true → length updates ≤ 4096
+continued_sound : (c : Control) (by : Origin) (updates : List Update) → is_of_primary (primary c by.role) by.election_id ≡ true → length updates ≤ 4096
     → IsSound c (continued by (outcomes c by.role updates))
 continued_sound c by updates primary size =
     let list = made_by c by.role updates in
@@ -271,7 +271,7 @@ batch_unless : (b : Bool) (c : Control) (by : Origin) (list : List Change) → l
 batch_unless true c by list few may = no_batch c
 batch_unless false c by list few may = one_batch c by list few may
 
-atomic_sound : (c : Control) (by : Origin) (updates : List Update) → bears (primary c by.role) by.election_id ≡ true → length updates ≤ 4096
+atomic_sound : (c : Control) (by : Origin) (updates : List Update) → is_of_primary (primary c by.role) by.election_id ≡ true → length updates ≤ 4096
     → IsSound c (all_or_nothing by (outcomes c by.role updates))
 atomic_sound c by updates primary size =
     let sound = batch_unless (has_failed (outcomes c by.role updates)) c by (made_by c by.role updates) (omega (arith, made_few updates c by.role, size)) (made_may updates c by primary) in record {
@@ -284,7 +284,7 @@ atomic_sound c by updates primary size =
       few_numbers = sound.few_numbers;
     }
 
-written_sound : (b : Bool) (c : Control) (by : Origin) (updates : List Update) → bears (primary c by.role) by.election_id ≡ true → length updates ≤ 4096
+written_sound : (b : Bool) (c : Control) (by : Origin) (updates : List Update) → is_of_primary (primary c by.role) by.election_id ≡ true → length updates ≤ 4096
     → IsSound c (if b then all_or_nothing by (outcomes c by.role updates) else continued by (outcomes c by.role updates))
 written_sound true c by updates primary size = atomic_sound c by updates primary size
 written_sound false c by updates primary size = continued_sound c by updates primary size
@@ -371,7 +371,7 @@ leave_sound (Some session) c lane k is = record {
 }
 
 pub answer_to_sound : (call : Call) (c : Control) (lane k : ℕ) → IsSound c (answer_to c lane k call)
-answer_to_sound (calls.Write request) c lane k = write_sound _ c lane k request refl (write_available (request.device_id == c.device) (bears (primary c request.role_id) request.election_id) (is_some c.plane) (is_atomicity request.atomicity) (nat_lt 4096 (length request.updates)))
+answer_to_sound (calls.Write request) c lane k = write_sound _ c lane k request refl (write_available (request.device_id == c.device) (is_of_primary (primary c request.role_id) request.election_id) (is_some c.plane) (is_atomicity request.atomicity) (nat_lt 4096 (length request.updates)))
 answer_to_sound (calls.Read request) c lane k = read_sound c _ (read_available c request)
 answer_to_sound (calls.Set request) c lane k = plain_sound c codes.Unimplemented _ refl
 answer_to_sound (calls.Get request) c lane k = plain_sound c codes.Unimplemented _ refl

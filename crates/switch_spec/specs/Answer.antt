@@ -22,7 +22,7 @@ use Rattle.role_arbiter.specs.declared.sessions.Session.{Session}
 use Rattle.role_arbiter.specs.Arbitration.{cause, asked, arbitrated, left}
 use Rattle.role_arbiter.specs.State.{session_in}
 use Rattle.role_arbiter.specs.Telling.{told_at_arbitration, told_at_leave}
-use Rattle.switch_spec.specs.Control.{Control, primary, bears, outcome, change_applied}
+use Rattle.switch_spec.specs.Control.{Control, primary, is_of_primary, outcome, change_applied}
 use Rattle.switch_spec.specs.Notices.{standing_notices, unserved_notice}
 use Rattle.switch_spec.specs.Reading.{read_result}
 use Rattle.switch_spec.specs.Status.{status_bytes, error_bytes, aborted_bytes, write_status, capabilities_bytes}
@@ -38,6 +38,7 @@ abbrev pub called : LaneCall → Call
 called (Asks method message) = call_of method message
 called Leaves = calls.Leave
 
+-- what a call is answered, the events that it makes, and the packet that it makes enter at the CPU port
 pub record Answer : Type 0 where
   pub code : Code
   pub messages : List (List ℕ)
@@ -68,7 +69,7 @@ is_atomic (negsuc n) = true
 abbrev pub write_refusal : Control → WriteRequest → Option Code
 write_refusal c request =
     if not (request.device_id == c.device) then Some codes.NotFound else
-    if not (bears (primary c request.role_id) request.election_id) then Some codes.PermissionDenied else
+    if not (is_of_primary (primary c request.role_id) request.election_id) then Some codes.PermissionDenied else
     if not (is_some c.plane) then Some codes.FailedPrecondition else
     if not (is_atomicity request.atomicity) then Some codes.InvalidArgument else
     if nat_lt 4096 (length request.updates) then Some codes.ResourceExhausted else None
@@ -99,6 +100,7 @@ abbrev pub write_reply : Bool → List (List ℕ) → Answer
 write_reply true errors = plain codes.Unknown (write_status errors ∷ [])
 write_reply false errors = plain codes.Ok ([] ∷ [])
 
+-- some update failed
 abbrev pub has_failed : List (Result Change Cause) → Bool
 has_failed list = list_any is_err list
 
@@ -115,16 +117,20 @@ batch by (change ∷ list) = events.Batch by (change ∷ list) ∷ []
 abbrev pub all_or_nothing : Origin → List (Result Change Cause) → Answer
 all_or_nothing by list = record (write_reply (has_failed list) (batch_errors list)) { events = if has_failed list then [] else batch by (filter_map result_ok list) }
 
+-- who wrote: the lane, its call, the role and the election id of the Write
 abbrev pub origin : ℕ → ℕ → WriteRequest → Origin
 origin lane k request = record { caller = lane; call = k; role = request.role_id; election_id = request.election_id }
 
+-- what a Write answers that is not refused whole, by its atomicity
 abbrev pub written : ℤ → Origin → List (Result Change Cause) → Answer
 written atomicity by list = if is_atomic atomicity then all_or_nothing by list else continued by list
 
+-- the same where there is no code to refuse it whole, else that code
 abbrev pub write_unless : Option Code → Control → ℕ → ℕ → WriteRequest → Answer
 write_unless (Some code) c lane k request = failed code
 write_unless None c lane k request = written request.atomicity (origin lane k request) (outcomes c request.role_id request.updates)
 
+-- what a Write is answered
 abbrev pub write_answer : Control → ℕ → ℕ → WriteRequest → Answer
 write_answer c lane k request = write_unless (write_refusal c request) c lane k request
 
@@ -169,6 +175,7 @@ leave_of None c lane k = plain codes.Ok []
 leave_of (Some session) c lane k =
     record (plain codes.Ok []) { notices = standing_notices c.device (left c.roles lane) session.role (told_at_leave c.roles lane); events = events.Leave lane k ∷ [] }
 
+-- what the end of a lane's stream is answered
 abbrev pub leave_answer : Control → ℕ → ℕ → Answer
 leave_answer c lane k = leave_of (session_in c.roles.sessions lane) c lane k
 

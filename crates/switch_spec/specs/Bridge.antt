@@ -25,12 +25,15 @@ drop_action = 0x01000002
 abbrev pub named : ℕ → List ℕ → Preamble
 named id name = record { id = id; name = name; alias = []; annotations = [] }
 
+-- the forward action in the bridge's P4Info: its one parameter is the port
 abbrev pub forward_info : Action
 forward_info = record { preamble = named forward_action (codes "forward"); params = (record { id = 1; name = codes "port"; bitwidth = 9 }) ∷ [] }
 
+-- the drop action in the bridge's P4Info, which has no parameters
 abbrev pub drop_info : Action
 drop_info = record { preamble = named drop_action (codes "drop"); params = [] }
 
+-- the table in the bridge's P4Info: an exact match of the destination address, at most 4 entries, no counter
 abbrev pub bridge_table_info : Table
 bridge_table_info = record {
   preamble = named bridge_table (codes "bridge");

@@ -20,6 +20,7 @@ use Rattle.p4_types.specs.declared.table.EntryChange.{EntryChange}
 use Rattle.p4_types.specs.declared.table.Room.{Room}
 use Rattle.role_arbiter.specs.declared.sessions.Session.{Session}
 use Rattle.role_arbiter.specs.Arbitration.{cause, asked, arbitrated, settled, left}
+use Rattle.role_arbiter.specs.Election.{election_number}
 use Rattle.role_arbiter.specs.State.{RolesState, no_roles, session_in, primary_of}
 use Rattle.switch_spec.specs.Bridge.{bridge_info, bridge_defaults, bridge_session}
 use Rattle.switch_spec.specs.Entries.{slot_limit, insert_cause, absence_cause, new_entry, slots_drawn, inserted, modified, deleted}
@@ -36,6 +37,7 @@ pub record Plane : Type 0 where
   -- the program's own default actions, by rising table id
   pub program : List DefaultAction
 
+-- the control state of the switch: what calls are answered from, and what events change
 pub record Control : Type 0 where
   pub device : ℕ
   -- the port at which packets from and to a controller pass
@@ -53,6 +55,7 @@ pub record Control : Type 0 where
   -- whether the list of events has ended
   pub closed : Bool
 
+-- the plane of the built-in bridge, with nothing written
 abbrev pub bridge_plane : Plane
 bridge_plane = record { info = bridge_info; entries = []; changed = []; program = bridge_defaults }
 
@@ -73,19 +76,17 @@ opened start = record {
 abbrev pub primary : Control → ℕ → Option Session
 primary c role = primary_of c.roles role
 
-abbrev pub same_id : Uint128 → Uint128 → Bool
-same_id a b = (a.high == b.high) && (a.low == b.low)
-
 -- an election id is that of the primary, if there is one, and not 0
-abbrev pub bears : Option Session → Uint128 → Bool
-bears None id = false
-bears (Some p) id = same_id p.election_id id && not (same_id id (record { high = 0; low = 0 }))
+abbrev pub is_of_primary : Option Session → Uint128 → Bool
+is_of_primary None id = false
+is_of_primary (Some p) id = (election_number p.election_id == election_number id) && not (election_number id == 0)
 
 -- the ids that the role's primary may write
 abbrev pub scope_in : Option Session → Option (List ℕ)
 scope_in None = None
 scope_in (Some p) = p.config
 
+-- the ids that a role's primary may write, or none where it may write all
 abbrev pub scope_of : Control → ℕ → Option (List ℕ)
 scope_of c role = scope_in (primary c role)
 
@@ -93,6 +94,7 @@ scope_of c role = scope_in (primary c role)
 abbrev pub room_of : Control → Plane → Room
 room_of c plane = record { rows = c.rows - length plane.entries; slots = slot_limit - c.next_slot; numbers = 2 ^ 64 - 1 - c.next }
 
+-- why an INSERT is refused, also for want of its table (U3)
 abbrev pub insert_cause_in : Option Table → Control → Plane → EntryChange → Option Cause
 insert_cause_in None c plane change = Some (record { rule = 3; code = codes.NotFound })
 insert_cause_in (Some table) c plane change = insert_cause table (room_of c plane) change.name plane.entries
@@ -104,14 +106,17 @@ change_cause c plane (changes.ModifyEntry change) = absence_cause change.name pl
 change_cause c plane (changes.DeleteEntry name) = absence_cause name plane.entries
 change_cause c plane (changes.ModifyDefault table action) = None
 
+-- with other entries
 abbrev pub with_entries : Control → Plane → List Entry → Control
 with_entries c plane entries = record c { plane = Some (record plane { entries = entries }) }
 
+-- with an entry more, and the numbers that it draws
 abbrev pub inserted_in : Option Table → Control → Plane → EntryChange → Control
 inserted_in None c plane change = c
 inserted_in (Some table) c plane change =
     record (with_entries c plane (inserted (new_entry table (room_of c plane) change) plane.entries)) { next = c.next + 1; next_slot = c.next_slot + slots_drawn table }
 
+-- a changed default action as a list, or none
 abbrev pub as_default : ℕ → Option ActionCall → List DefaultAction
 as_default table None = []
 as_default table (Some action) = (record { table = table; action = action }) ∷ []
@@ -120,9 +125,11 @@ as_default table (Some action) = (record { table = table; action = action }) ∷
 abbrev pub with_default : ℕ → Option ActionCall → List DefaultAction → List DefaultAction
 with_default table action defaults = filter (λ d. nat_lt d.table table) defaults ++ as_default table action ++ filter (λ d. nat_lt table d.table) defaults
 
+-- the default action of a table among these, if there is one
 abbrev pub default_in : ℕ → List DefaultAction → Option DefaultAction
 default_in table defaults = find (λ d. d.table == table) defaults
 
+-- the first, or else the other
 abbrev pub or_else : {A : Type 0} → Option A → Option A → Option A
 or_else (Some x) other = Some x
 or_else None other = other
@@ -138,6 +145,7 @@ changed c plane (changes.ModifyEntry change) = with_entries c plane (modified ch
 changed c plane (changes.DeleteEntry name) = with_entries c plane (deleted name plane.entries)
 changed c plane (changes.ModifyDefault table action) = record c { plane = Some (record plane { changed = with_default table action plane.changed }) }
 
+-- the state after a change, which stays where there is a cause to refuse it
 abbrev pub changed_unless : Option Cause → Control → Plane → Change → Control
 changed_unless None c plane change = changed c plane change
 changed_unless (Some cause) c plane change = c
@@ -147,6 +155,7 @@ abbrev pub target_cause : Option Plane → Control → Change → Option Cause
 target_cause None c change = Some (record { rule = 0; code = codes.FailedPrecondition })
 target_cause (Some plane) c change = change_cause c plane change
 
+-- the same, which stays too where there is no plane
 abbrev pub changed_in : Option Plane → Control → Change → Control
 changed_in None c change = c
 changed_in (Some plane) c change = changed_unless (change_cause c plane change) c plane change
@@ -159,6 +168,7 @@ change_applied c change = changed_in c.plane c change
 abbrev pub session_by : Origin → Option (List ℕ) → Session
 session_by by config = record { caller = by.caller; role = by.role; election_id = by.election_id; config = config }
 
+-- with other roles
 abbrev pub with_roles : Control → RolesState → Control
 with_roles c roles = record c { roles = roles }
 
@@ -179,6 +189,7 @@ abbrev pub checked : Control → Plane → Result Change Cause → Result Change
 checked c plane (Err cause) = Err cause
 checked c plane (Ok change) = unless (change_cause c plane change) change
 
+-- what an update does to a plane, or why it is refused; without a plane each is
 abbrev pub outcome_in : Option Plane → Control → ℕ → Update → Result Change Cause
 outcome_in None c role update = Err (record { rule = 0; code = codes.FailedPrecondition })
 outcome_in (Some plane) c role update = checked c plane (resolution plane.info (scope_of c role) update)
@@ -189,7 +200,7 @@ outcome c role update = outcome_in c.plane c role update
 
 -- a change may be made under the id of its role's primary where some update makes it in this state
 pub record MayChange (c : Control) (by : Origin) (change : Change) : Type 0 where
-  pub by_primary : bears (primary c by.role) by.election_id ≡ true
+  pub by_primary : is_of_primary (primary c by.role) by.election_id ≡ true
   pub update : Update
   pub no_cause : outcome c by.role update ≡ Ok change
 

@@ -59,6 +59,7 @@ best table key entries =
     let hitting = filter (hits table key) entries in
     find (λ entry. not (list_any (λ other. beats other entry) hitting)) hitting
 
+-- two tests of a field are the same
 abbrev pub same_test : FieldTest → FieldTest → Bool
 same_test tests.Any tests.Any = true
 same_test (tests.Equal a) (tests.Equal b) = a == b
@@ -67,6 +68,7 @@ same_test (tests.Masked a m) (tests.Masked b n) = (a == b) && (m == n)
 same_test (tests.Between a m) (tests.Between b n) = (a == b) && (m == n)
 same_test _ _ = false
 
+-- the same for two lists of tests, field by field
 abbrev pub same_tests : List FieldTest → List FieldTest → Bool
 same_tests [] [] = true
 same_tests [] (b ∷ bs) = false
@@ -97,10 +99,11 @@ slots_drawn table = if is_counted table then 1 else 0
 abbrev pub slot_limit : ℕ
 slot_limit = 1048576
 
--- the sequence number, and the slot, that an INSERT draws
+-- the sequence number that an INSERT draws
 abbrev pub next_number : Room → ℕ
 next_number room = 2 ^ 64 - 1 - room.numbers
 
+-- the slot that an INSERT into a table with a direct counter draws
 abbrev pub next_slot : Room → ℕ
 next_slot room = slot_limit - room.slots
 
@@ -139,8 +142,10 @@ inserted entry entries =
 abbrev pub with_change : EntryChange → Entry → Entry
 with_change change entry = record entry { controller_metadata = change.controller_metadata; action = change.action }
 
+-- the entries after a MODIFY of the one of that name
 unfoldable pub modified : EntryChange → List Entry → List Entry
 modified change entries = map (λ entry. if same_name change.name entry.name then with_change change entry else entry) entries
 
+-- the entries after a DELETE of the one of that name
 unfoldable pub deleted : EntryName → List Entry → List Entry
 deleted name entries = filter (λ entry. not (same_name name entry.name)) entries

@@ -26,6 +26,7 @@ step_of (events.Change by change) = Some (record { kind = kinds.Change; changes 
 step_of (events.Batch by list) = Some (record { kind = kinds.Batch; changes = length list })
 step_of events.Close = None
 
+-- the steps of a list of events, in order
 abbrev pub steps_of : List Event → List Step
 steps_of list = filter_map step_of list
 
@@ -49,6 +50,7 @@ abbrev pub is_unavailable : Code → Bool
 is_unavailable codes.Unavailable = true
 is_unavailable _ = false
 
+-- whether there was no memory for a call of the journal
 abbrev pub is_refused_for_memory : Made → Bool
 is_refused_for_memory made = is_unavailable made.entry.reply.code
 

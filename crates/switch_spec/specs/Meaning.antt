@@ -14,6 +14,7 @@ use Rattle.switch_spec.specs.Control.{Control, Plane, primary, default_of}
 use Rattle.switch_spec.specs.Entries.{best}
 use Rattle.switch_spec.specs.UpdateRules.{number_in}
 
+-- what becomes of a packet: its fate, what it sends to ports, to controllers and as a digest, and what it hit
 pub record Verdict : Type 0 where
   -- 0 sent, else dropped for this reason
   pub fate : ℕ
@@ -23,6 +24,7 @@ pub record Verdict : Type 0 where
   pub digest : Option (ℕ × List ℕ)
   pub hits : List HitMark
 
+-- the verdict of this fate, with these hits, by which nothing is sent
 abbrev pub dropped : ℕ → List HitMark → Verdict
 dropped fate hits = record { fate = fate; outputs = []; cpu = []; digest = None; hits = hits }
 

@@ -23,6 +23,7 @@ standing device state role lane = record {
   status = Some (record { code = pos (code_number (status_by (primary_of state role) lane)); message = []; details = [] });
 }
 
+-- a lane is told where it stands in a role
 abbrev pub standing_notice : ℕ → RolesState → ℕ → ℕ → Notice
 standing_notice device state role lane = record { lane = lane; message = responses.Arbitration (standing device state role lane) }
 
@@ -40,5 +41,6 @@ unserved = record {
   details = Some (details.Other (record { type_url = []; value = [] }));
 }
 
+-- a lane is told that its message is not served
 abbrev pub unserved_notice : ℕ → Notice
 unserved_notice lane = record { lane = lane; message = responses.Error unserved }

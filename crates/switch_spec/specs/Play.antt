@@ -21,13 +21,15 @@ pub record Played : Type 0 where
   pub journal : List Entry
   pub records : List Record
 
+-- the run before the first record of the tape
 abbrev pub begun : Start → Played
 begun start = record { control = opened start; steps = 0; journal = []; records = [] }
 
--- the number of the lane's next call, and of its next packet
+-- the number of a controller's next call
 abbrev pub next_call : ℕ → Played → ℕ
 next_call lane p = count_by (λ entry. entry.lane == lane) p.journal + 1
 
+-- the number of a worker's next packet
 abbrev pub next_packet : ℕ → Played → ℕ
 next_packet lane p = count_by (λ r. is_who (Worker lane) r.who) p.records + 1
 
@@ -71,6 +73,7 @@ item_of (Carries lane port packet) = Packet lane port packet
 abbrev pub items_of : List Turn → List TapeRecord
 items_of turns = map item_of turns
 
+-- the run after one turn more
 unfoldable pub play : Played → Turn → Played
 play p (Answers lane call) = play_call p lane call
 play p (Refuses lane call) = play_refusal p lane

@@ -40,6 +40,7 @@ match_refusal table asked =
     if is_too_wide table asked then Some codes.OutOfRange else
     if is_canonical_match table asked then None else Some codes.InvalidArgument
 
+-- why an entry of one table that is asked for is refused, if it is: there is no such table, or by its match
 abbrev pub entry_refusal_in : Option Table → TableEntry → Option Code
 entry_refusal_in None asked = Some codes.NotFound
 entry_refusal_in (Some table) asked = match_refusal table asked
@@ -82,19 +83,24 @@ shown_kind field (tests.Prefix value length width) = Some (given.Lpm (canon valu
 shown_kind field (tests.Masked value mask) = Some (given.Ternary (canon value) (canon mask))
 shown_kind field (tests.Between low high) = Some (given.Range (canon low) (canon high))
 
+-- what is asked of the field of this id (FieldMatch)
 abbrev pub field_match : ℕ → FieldMatchKind → FieldMatch
 field_match id kind = record { field_id = id; kind = Some kind }
 
+-- a field's test as it is answered, with the field's id
 abbrev pub shown_match : MatchField × FieldTest → Option FieldMatch
 shown_match x = option_map (field_match x.0.id) (shown_kind x.0 x.1)
 
+-- the match of an entry as it is answered: its fields by rising id; none where the table is unknown
 abbrev pub matches_in : Option Table → List FieldTest → List FieldMatch
 matches_in None list = []
 matches_in (Some table) list = by_rising (λ m. m.field_id) (filter_map shown_match (zip table.match_fields list))
 
+-- the argument of the parameter of this id, in canonical form (Param)
 abbrev pub param_of : ℕ → ℕ → Param
 param_of id value = record { param_id = id; value = canon value }
 
+-- the arguments of an action as they are answered, by rising id of their parameters; none where the action is unknown
 abbrev pub params_in : Option infos.Action → List ℕ → List Param
 params_in None arguments = []
 params_in (Some action) arguments = by_rising (λ p. p.param_id) (map (λ x. param_of x.0.id x.1) (zip action.params arguments))
@@ -129,6 +135,7 @@ shown_entry info entry =
 abbrev pub shown_default : Info → DefaultAction → TableEntry
 shown_default info default = record (plain_entry default.table [] (pos 0) (shown_action info default.action)) { is_default_action = true }
 
+-- a table that is asked for: the one of that id, or any where the id is 0
 abbrev pub is_asked : TableEntry → ℕ → Bool
 is_asked asked table = (asked.table_id == 0) || (table == asked.table_id)
 
@@ -138,6 +145,7 @@ selects_in None asked entry = is_zero asked.priority || int_eq entry.name.priori
 selects_in (Some table) asked entry =
     if has_match asked then same_name (name_of table asked) entry.name else is_zero asked.priority || int_eq entry.name.priority asked.priority
 
+-- whether a Read of a table entry selects an entry: of a table that is asked for, and by match and priority
 abbrev pub selects : Option Table → TableEntry → Entry → Bool
 selects table asked entry = is_asked asked entry.name.table && selects_in table asked entry
 
@@ -156,6 +164,7 @@ selected_entries plane asked =
     if asked.is_default_action then selected_defaults plane asked
     else map (shown_entry plane.info) (filter (selects (table_of asked.table_id plane.info) asked) plane.entries)
 
+-- what is answered for an entity that is asked for; for other kinds than table entries nothing
 abbrev pub selected : Plane → Option Entity → List Entity
 selected plane (Some (entities.TableEntry asked)) = map entities.TableEntry (selected_entries plane asked)
 selected plane _ = []
@@ -165,6 +174,7 @@ abbrev pub chunks_in : ℕ → List Entity → List (List Entity)
 chunks_in zero list = list ∷ []
 chunks_in (suc steps) list = if nat_le (length list) 1024 then list ∷ [] else take 1024 list ∷ chunks_in steps (drop 1024 list)
 
+-- the messages that answer a Read, each by its entities
 unfoldable pub chunks : List Entity → List (List Entity)
 chunks list = chunks_in (length list) list
 
@@ -176,10 +186,12 @@ response_bytes list = spelling (fields_by read_response_rows (record { entities 
 abbrev pub read_messages : Plane → List (Option Entity) → List (List ℕ)
 read_messages plane list = map response_bytes (chunks (flat_map (selected plane) list))
 
+-- the messages that answer a Read, unless a code refuses it
 abbrev pub read_unless : Option Code → Plane → List (Option Entity) → Result (List (List ℕ)) Code
 read_unless (Some code) plane list = Err code
 read_unless None plane list = Ok (read_messages plane list)
 
+-- the answer to a Read under the program, if there is one; without a program it is refused
 abbrev pub read_in : Option Plane → ReadRequest → Result (List (List ℕ)) Code
 read_in None request = Err codes.FailedPrecondition
 read_in (Some plane) request = read_unless (first_of (map (entity_refusal plane.info) request.entities)) plane request.entities

@@ -22,6 +22,7 @@ use Rattle.p4v1_wire.specs.StreamRows.{stream_rows}
 use Rattle.wire_fields.specs.Spelling.{spelling}
 use Rattle.switch_spec.specs.Text.{hex_word, pair_word, list_word, option_word, line, count_up}
 
+-- the kind of a step
 abbrev pub kind_word : StepKind → List ℕ
 kind_word kinds.Arbitrate = codes "arbitrate"
 kind_word kinds.Leave = codes "leave"
@@ -43,9 +44,11 @@ step_lines i lane call (step ∷ steps) = step_line (i + 1) lane call step ++ st
 abbrev pub response_bytes : StreamMessageResponse → List ℕ
 response_bytes message = spelling (fields_by stream_rows message)
 
+-- a notice: the lane that is told, and the message
 abbrev pub notice_line : Notice → List ℕ
 notice_line notice = line (codes "notice" ∷ decimal notice.lane ∷ hex_word (response_bytes notice.message) ∷ [])
 
+-- the reply to a lane's call: the steps through it, its code and its messages
 abbrev pub reply_line : Entry → List ℕ
 reply_line entry = line (codes "reply" ∷ decimal entry.lane ∷ decimal entry.call ∷ decimal entry.reply.steps
     ∷ decimal (code_number entry.reply.code) ∷ list_word hex_word entry.reply.messages ∷ [])
@@ -59,10 +62,12 @@ abbrev pub journal_lines : ℕ → List Entry → List ℕ
 journal_lines i [] = []
 journal_lines i (entry ∷ entries) = entry_lines i entry ++ journal_lines (i + length entry.steps) entries
 
+-- a controller's lane or a worker's, by its letter and its number
 abbrev pub who_word : Who → List ℕ
 who_word (who.Controller lane) = codes "c" ++ decimal lane
 who_word (who.Worker lane) = codes "w" ++ decimal lane
 
+-- the fate of a packet: sent, or dropped and the reason
 abbrev pub fate_word : ℕ → List ℕ
 fate_word fate = if fate == 0 then codes "sent" else codes "drop" ++ decimal fate
 
@@ -74,14 +79,17 @@ tagged_word x = pair_word (decimal x.0) (hex_word x.1)
 abbrev pub cpu_word : Option ℕ × List ℕ → List ℕ
 cpu_word x = pair_word (option_word decimal x.0) (hex_word x.1)
 
+-- what a packet hit: a table's entry by its sequence number, or a counter's cell by its slot
 abbrev pub mark_word : HitMark → List ℕ
 mark_word (marks.Entry table seq) = pair_word (decimal table) (decimal seq)
 mark_word (marks.Cell slot) = codes "@" ++ decimal slot
 
+-- a packet: its lane and number, the steps before it, its fate, what it sent and what it hit
 abbrev pub packet_line : Record → List ℕ
 packet_line r = line (codes "packet" ∷ who_word r.who ∷ decimal r.index ∷ decimal r.steps ∷ fate_word r.fate ∷ list_word tagged_word r.outputs
     ∷ list_word cpu_word r.cpu ∷ option_word tagged_word r.digest ∷ list_word mark_word r.hits ∷ [])
 
+-- the same lane
 abbrev pub is_who : Who → Who → Bool
 is_who (who.Controller a) (who.Controller b) = a == b
 is_who (who.Controller a) (who.Worker b) = false
@@ -100,18 +108,23 @@ lanes = map who.Worker (count_up 0 16) ++ map who.Controller (count_up 0 32)
 abbrev pub packet_lines : List Record → List ℕ
 packet_lines records = flat_map (λ lane. flat_map packet_line (records_of lane records)) lanes
 
+-- the bytes sent on a lane of a transport
 abbrev pub sent_line : ℕ × List ℕ → List ℕ
 sent_line x = line (codes "sent" ∷ decimal x.0 ∷ hex_word x.1 ∷ [])
 
+-- the packets and bytes that an entry of a table with a direct counter has counted
 abbrev pub count_line : CountLine → List ℕ
 count_line c = line (codes "count" ∷ decimal c.seq ∷ decimal c.table ∷ decimal c.packets ∷ decimal c.bytes ∷ [])
 
+-- the packets and bytes that a cell of an indirect counter has counted
 abbrev pub cell_line : CellLine → List ℕ
 cell_line c = line (codes "cell" ∷ decimal c.slot ∷ decimal c.counter ∷ decimal c.index ∷ decimal c.packets ∷ decimal c.bytes ∷ [])
 
+-- the last line: how many steps, and how many packets
 abbrev pub end_line : Report → List ℕ
 end_line r = line (codes "end" ∷ decimal (sum_by (λ entry. length entry.steps) r.journal) ∷ decimal (length r.records) ∷ [])
 
+-- the text of a report: the calls, the bytes sent, the packets, the counts, and the last line
 abbrev pub report_text : Report → List ℕ
 report_text r = journal_lines 0 r.journal ++ (flat_map sent_line r.sent ++ (packet_lines r.records
     ++ (flat_map count_line r.counts ++ (flat_map cell_line r.cells ++ end_line r))))

@@ -19,11 +19,12 @@ error_bytes cause = spelling (number_field 1 (code_number cause.code) ∷ bytes_
 unfoldable pub aborted_bytes : List ℕ
 aborted_bytes = status_bytes Aborted
 
--- an Error as a detail (google.protobuf.Any); an Error of no bytes is left out of it
+-- the value of a detail (google.protobuf.Any), which is left out where it has no bytes
 abbrev pub value_fields : List ℕ → List WireField
 value_fields [] = []
 value_fields (b ∷ bytes) = bytes_field 2 (b ∷ bytes) ∷ []
 
+-- the bytes of an Error as a detail of a Status (google.protobuf.Any)
 unfoldable pub detail_bytes : List ℕ → List ℕ
 detail_bytes error = spelling (bytes_field 1 (codes "type.googleapis.com/p4.v1.Error") ∷ value_fields error)
 

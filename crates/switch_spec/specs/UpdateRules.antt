@@ -61,10 +61,12 @@ brings kinds.Insert = true
 brings kinds.Modify = true
 brings kinds.Delete = false
 
+-- a known table that has an action profile
 abbrev pub has_profile : Option Table → Bool
 has_profile None = false
 has_profile (Some table) = is_some table.action_profile
 
+-- the number is 0
 abbrev pub is_zero : ℤ → Bool
 is_zero (pos n) = n == 0
 is_zero (negsuc n) = false
@@ -79,6 +81,7 @@ abbrev pub is_foreign : Option (List ℕ) → ℕ → Bool
 is_foreign None id = false
 is_foreign (Some ids) id = not (list_any (λ own. own == id) ids)
 
+-- whether an update is a MODIFY
 abbrev pub is_modify : UpdateKind → Bool
 is_modify kinds.Modify = true
 is_modify kinds.Insert = false
@@ -88,39 +91,47 @@ is_modify kinds.Delete = false
 abbrev pub is_fixed : Table → UpdateKind → TableEntry → Bool
 is_fixed table kind entry = table.is_const_table || (entry.is_default_action && (not (is_modify kind) || is_some table.const_default_action))
 
--- the field that a match names, with what it asks of it
+-- the two, where both are there
 abbrev pub both : {A B : Type 0} → Option A → Option B → Option (A × B)
 both (Some x) (Some y) = Some (x, y)
 both (Some x) None = None
 both None (Some y) = None
 both None None = None
 
+-- the table's field that a match names, with what is asked of it; None where either is missing
 abbrev pub matched : Table → FieldMatch → Option (MatchField × FieldMatchKind)
 matched table asked = both (field_of asked.field_id table) asked.kind
 
+-- whether the kind of a field is EXACT
 abbrev pub is_exact : MatchKind → Bool
 is_exact match_kinds.Exact = true
 is_exact _ = false
 
+-- whether the kind of a field is LPM
 abbrev pub is_lpm : MatchKind → Bool
 is_lpm match_kinds.Lpm = true
 is_lpm _ = false
 
+-- whether the kind of a field is TERNARY
 abbrev pub is_ternary : MatchKind → Bool
 is_ternary match_kinds.Ternary = true
 is_ternary _ = false
 
+-- whether the kind of a field is RANGE
 abbrev pub is_range : MatchKind → Bool
 is_range match_kinds.Range = true
 is_range _ = false
 
+-- whether the kind of a field is OPTIONAL
 abbrev pub is_optional : MatchKind → Bool
 is_optional match_kinds.Optional = true
 is_optional _ = false
 
+-- a byte string of no bytes
 abbrev pub is_empty : List ℕ → Bool
 is_empty bytes = length bytes == 0
 
+-- each byte is 0
 abbrev pub all_zero : List ℕ → Bool
 all_zero bytes = list_all (λ b. b == 0) bytes
 
@@ -137,6 +148,7 @@ is_formed field (given.Lpm value length) = is_lpm field.kind && not (is_empty va
 is_formed field (given.Range low high) = is_range field.kind && not (is_empty low) && not (is_empty high)
 is_formed field (given.Optional value) = is_optional field.kind && not (is_empty value)
 
+-- the same for a match that may name no field of the table or ask nothing; such a one is malformed
 abbrev pub is_formed_in : Option (MatchField × FieldMatchKind) → Bool
 is_formed_in None = false
 is_formed_in (Some x) = is_formed x.0 x.1
@@ -147,6 +159,7 @@ names_zero (Some (Some (actions.ActionProfileMemberId id))) = id == 0
 names_zero (Some (Some (actions.ActionProfileGroupId id))) = id == 0
 names_zero _ = false
 
+-- the entry gives a match for some field
 abbrev pub has_match : TableEntry → Bool
 has_match entry = not (length entry.matches == 0)
 
@@ -172,6 +185,7 @@ fits width (given.Lpm value length) = nat_lt (number value) (2 ^ width)
 fits width (given.Range low high) = nat_lt (number low) (2 ^ width) && nat_lt (number high) (2 ^ width)
 fits width (given.Optional value) = nat_lt (number value) (2 ^ width)
 
+-- the same for a match that may name no field of the table or ask nothing; such a one is left to U6
 abbrev pub fits_in : Option (MatchField × FieldMatchKind) → Bool
 fits_in None = true
 fits_in (Some x) = fits x.0.bitwidth x.1
@@ -193,6 +207,7 @@ is_canonical width (given.Lpm value length) = number_in width value % 2 ^ (width
 is_canonical width (given.Range low high) = nat_le (number_in width low) (number_in width high) && not ((number_in width low == 0) && (number_in width high == 2 ^ width - 1))
 is_canonical width (given.Optional value) = true
 
+-- the same for a match that may name no field of the table or ask nothing; such a one is left to U6
 abbrev pub is_canonical_in : Option (MatchField × FieldMatchKind) → Bool
 is_canonical_in None = true
 is_canonical_in (Some x) = is_canonical x.0.bitwidth x.1
@@ -219,6 +234,7 @@ is_allowed default scopes.TableAndDefault = true
 is_allowed default scopes.TableOnly = not default
 is_allowed default scopes.DefaultOnly = default
 
+-- the table has the action of this id, with a scope that allows it in an entry, or as the default
 abbrev pub has_action : Table → Bool → ℕ → Bool
 has_action table default id = list_any (λ ref. (ref.id == id) && is_allowed default ref.scope) table.action_refs
 
@@ -240,6 +256,7 @@ argument_of arguments id = unwrap_or (option_map (λ argument. argument.value) (
 abbrev pub arguments_fit : List info_params.Param → List Param → Bool
 arguments_fit params arguments = list_all (λ param. nat_lt (number (argument_of arguments param.id)) (2 ^ param.bitwidth)) params
 
+-- the code with which the arguments of an action are refused, if they are; those of an unknown action are
 abbrev pub argument_flaw : Option infos.Action → List Param → Option Code
 argument_flaw None arguments = Some codes.InvalidArgument
 argument_flaw (Some action) arguments =
@@ -261,6 +278,7 @@ action_flaw info table default (Some _) = Some codes.InvalidArgument
 abbrev pub brought_flaw : Info → Table → UpdateKind → TableEntry → Option Code
 brought_flaw info table kind entry = if brings kind then action_flaw info table entry.is_default_action entry.action else None
 
+-- the rule that is broken, and the code with which it refuses
 abbrev pub caused : ℕ → Code → Option Cause
 caused rule code = Some (record { rule = rule; code = code })
 
@@ -307,9 +325,11 @@ abbrev pub given_call : Info → Option (Option TableAction) → Option ActionCa
 given_call info (Some (Some (actions.Action call))) = Some (action_call (action_of call.action_id info) call)
 given_call info _ = None
 
+-- what stands for an action that is not given
 abbrev pub no_call : ActionCall
 no_call = record { action = 0; arguments = [] }
 
+-- the change of an entry by the type of its update; a DELETE needs only the name
 abbrev pub change_by : UpdateKind → EntryChange → Change
 change_by kinds.Insert brought = changes.InsertEntry brought
 change_by kinds.Modify brought = changes.ModifyEntry brought

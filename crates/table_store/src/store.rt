@@ -12,7 +12,7 @@ use crate::groups::{self, Group};
 use crate::{causes, changes, rows};
 use p4_types::code::Cause;
 use p4_types::info::Table;
-use p4_types::table::{Entry, EntryChange, EntryName, Mark, Room};
+use p4_types::table::{Entry, EntryChange, EntryName, Room};
 use std::alloc::Global;
 use std::marker::Model;
 
@@ -98,7 +98,7 @@ impl TableStore {
         table: &Table,
         change: &EntryChange,
         room: Room,
-    ) -> Result<Mark, StoreError>
+    ) -> Result<(), StoreError>
         requires table { change.now.name.table ≡ table.now.preamble.id }
         requires above { All (λ entry. entry.seq < next_number room) self.old }
         ensures refused { Refuses result (insert_cause table.now room change.now.name self.old) }
@@ -113,12 +113,12 @@ impl TableStore {
         groups::settle(&mut self.groups, change.name.table);
         made?;
         self.entries = entries;
-        Ok(Mark)
+        Ok(())
     }
 
     /// Replaces action and metadata of an entry, which keeps its place, sequence number and slot; refused for
     /// its `absence_cause`, or for want of memory.
-    pub fn modify(&mut self, alloc: Global, change: &EntryChange) -> Result<Mark, StoreError>
+    pub fn modify(&mut self, alloc: Global, change: &EntryChange) -> Result<(), StoreError>
         ensures refused { Refuses result (absence_cause change.now.name self.old) }
         ensures ok { OnOk result (self.new ≡ modified change.now self.old) }
         ensures err { OnErr result (self.new ≡ self.old) }
@@ -126,11 +126,11 @@ impl TableStore {
         let made = changes::modify(&mut self.groups, alloc, change);
         groups::settle(&mut self.groups, change.name.table);
         made?;
-        Ok(Mark)
+        Ok(())
     }
 
     /// Removes an entry; refused for its `absence_cause`. It takes no memory.
-    pub fn delete(&mut self, name: &EntryName) -> Result<Mark, StoreError>
+    pub fn delete(&mut self, name: &EntryName) -> Result<(), StoreError>
         ensures refused { Refuses result (absence_cause name.now self.old) }
         ensures ok { OnOk result (self.new ≡ deleted name.now self.old) }
         ensures err { OnErr result (self.new ≡ self.old) }
@@ -141,7 +141,7 @@ impl TableStore {
         }
         groups::discard(&mut self.groups, name);
         self.entries -= 1;
-        Ok(Mark)
+        Ok(())
     }
 
     /// Begins a draft: changes that are kept or undone together. It takes no memory.

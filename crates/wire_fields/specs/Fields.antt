@@ -21,6 +21,7 @@ wire_type (Fixed64 value) = 1
 wire_type (Bytes bytes) = 2
 wire_type (Fixed32 value) = 5
 
+-- a field's tag: its number, and below it the type of its payload
 abbrev pub tag : WireField → ℕ
 tag field = 8 * field.number + wire_type field.payload
 

@@ -13,12 +13,14 @@ varint_from (suc left) value = if nat_lt value 128 then value ∷ [] else (value
 abbrev pub varint : ℕ → List ℕ
 varint value = varint_from 10 value
 
+-- the canonical bytes of a payload: bytes follow their length
 abbrev pub payload_bytes : Payload → List ℕ
 payload_bytes (Varint value) = varint value
 payload_bytes (Fixed64 value) = to_le_bytes w64 value
 payload_bytes (Bytes bytes) = varint (length bytes) ++ bytes
 payload_bytes (Fixed32 value) = to_le_bytes w32 value
 
+-- the canonical bytes of a field: its tag, then its payload
 abbrev pub field_bytes : WireField → List ℕ
 field_bytes field = varint (tag field) ++ payload_bytes field.payload
 

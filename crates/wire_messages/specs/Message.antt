@@ -8,6 +8,7 @@ use Rattle.wire_fields.specs.Reading.{varint_at}
 use Rattle.wire_messages.specs.Numbers.{as_uint32, as_uint64, as_int32, as_int64, as_bool}
 
 infixl 10 ◌>>=◌
+-- what is read from what was read before, or nothing where that was not read
 abbrev pub ◌>>=◌ : {A B : Type 0} → Option A → (A → Option B) → Option B
 (Some x) >>= f = f x
 None >>= f = None
@@ -49,18 +50,23 @@ bytes_of (Fixed32 value) = None
 unfoldable pub number_at : {A : Type 0} → (ℕ → Option A) → A → ℕ → List WireField → Option A
 number_at read default number fields = each (λ payload. varint_of payload >>= read) (given number fields) >>= λ values. Some (last_or default values)
 
+-- a singular uint32, 0 where it is not given
 abbrev pub uint32_at : ℕ → List WireField → Option ℕ
 uint32_at number fields = number_at as_uint32 0 number fields
 
+-- a singular uint64, 0 where it is not given
 abbrev pub uint64_at : ℕ → List WireField → Option ℕ
 uint64_at number fields = number_at as_uint64 0 number fields
 
+-- a singular int32 or enumeration, 0 where it is not given
 abbrev pub int32_at : ℕ → List WireField → Option ℤ
 int32_at number fields = number_at as_int32 (pos 0) number fields
 
+-- a singular int64, 0 where it is not given
 abbrev pub int64_at : ℕ → List WireField → Option ℤ
 int64_at number fields = number_at as_int64 (pos 0) number fields
 
+-- a singular bool, false where it is not given
 abbrev pub bool_at : ℕ → List WireField → Option Bool
 bool_at number fields = number_at as_bool false number fields
 

@@ -84,6 +84,7 @@ pub record Row : Type 0 where
   pub number : ℕ
   pub value : Value
 
+-- the row of this number and value
 abbrev pub row : ℕ → Value → Row
 row number value = record { number = number; value = value }
 
@@ -113,10 +114,12 @@ rising_from low (row ∷ rows) = nat_lt low row.number && (nat_le row.number 536
 abbrev pub rising : List Row → Bool
 rising rows = rising_from 0 rows
 
+-- a number in the range of an int32
 abbrev pub IsInt32 : ℤ → Type 0
 IsInt32 (pos n) = n < 2 ^ 31
 IsInt32 (negsuc n) = n < 2 ^ 31
 
+-- a number in the range of an int64
 abbrev pub IsInt64 : ℤ → Type 0
 IsInt64 (pos n) = n < 2 ^ 63
 IsInt64 (negsuc n) = n < 2 ^ 63
