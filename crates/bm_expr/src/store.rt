@@ -3,7 +3,7 @@ ghost use Rattle.std.specs.Prelude.{◌≡◌, ◌<◌, ◌≤◌, false, length
 ghost use Rattle.bm_expr.specs.Store.{Contents, header_valid, field_read, field_written, validity_written};
 
 use crate::operators::cut;
-use p4_types::code::NoMemory;
+use list_types::NoMemory;
 use std::alloc::Global;
 use std::marker::Model;
 

@@ -1,5 +1,5 @@
 //! Why there are no raw records.
-use p4_types::list::Text;
+use list_types::Text;
 
 /// The rule of a configuration that is broken first: L1 by 1, and so on. The place is for people.
 #[derive(Drop)]

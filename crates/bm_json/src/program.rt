@@ -11,7 +11,7 @@ use bm_records::raw::{Deparser, ErrorNumber, Parser, RawProgram};
 use json_shapes::ShapeError;
 use json_shapes::arrays::Only;
 use json_shapes::shapes::{self, FromJson};
-use p4_types::list::{List, Text};
+use list_types::{List, Text};
 use serde_json::Value;
 use std::alloc::Global;
 

@@ -11,7 +11,7 @@ use bm_values::kinds::ValueKind;
 use bm_values::{literals, values};
 use json_shapes::shapes::{self, FromJson};
 use json_shapes::{ShapeError, arrays};
-use p4_types::list::Text;
+use list_types::Text;
 use serde_json::Value;
 use std::alloc::Global;
 

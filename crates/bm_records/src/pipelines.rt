@@ -10,8 +10,8 @@ use crate::raw::{
 };
 use json_shapes::shapes::{self, FromJson};
 use json_shapes::{ShapeError, arrays};
+use list_types::{List, Text};
 use p4_types::info::MatchKind;
-use p4_types::list::{List, Text};
 use serde_json::Value;
 use std::alloc::Global;
 

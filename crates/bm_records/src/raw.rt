@@ -3,8 +3,8 @@
 pub use bm_values::raw::{
     Expression, FieldName, Operator, Part, RawField, RawLiteral, RawWidth, Term,
 };
+use list_types::{List, Text};
 use p4_types::info::MatchKind;
-use p4_types::list::{List, Text};
 
 #[derive(Drop)]
 pub struct TypeField {

@@ -10,7 +10,7 @@ use crate::raw::{Expression, Term};
 use crate::values;
 use json_shapes::ShapeError;
 use json_shapes::shapes::{self, FromJson};
-use p4_types::list::{List, Text};
+use list_types::{List, Text};
 use serde_json::Value;
 use std::alloc::Global;
 

@@ -1,6 +1,6 @@
 //! Values, literals, widths and expressions: what a program's JSON says, with references by name. A number or a form that
 //! the switch does not serve stands as left out, an operation that the profile does not know by its name.
-use p4_types::list::{List, Text};
+use list_types::{List, Text};
 
 /// What is served, or a form that is left out.
 #[derive(Drop)]

@@ -8,7 +8,7 @@ use crate::kinds::{self, ValueKind};
 use crate::raw::{FieldName, Part, RawField};
 use json_shapes::shapes::{self, FromJson};
 use json_shapes::{ShapeError, arrays};
-use p4_types::list::Text;
+use list_types::Text;
 use serde_json::Value;
 use std::alloc::Global;
 

@@ -4,8 +4,7 @@ ghost use Rattle.switch_spec.specs.Bridge.{named, bridge_info, bridge_defaults};
 ghost use Rattle.bridge_program.specs.Spelled.{canonical_info};
 ghost use Rattle.bridge_program.specs.BridgeInfo.{forward_message, drop_message, table_message, bridge_message};
 
-use p4_types::code::NoMemory;
-use p4_types::list::{ByteList, List, Text};
+use list_types::{ByteList, List, NoMemory, Text};
 use p4_types::p4info;
 use p4_types::p4info::{Action, ActionRef, MatchField, Param, Preamble, Table};
 use p4_types::table::{ActionCall, DefaultAction};

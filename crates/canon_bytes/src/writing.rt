@@ -2,8 +2,7 @@
 ghost use Rattle.std.specs.Prelude.{◌≡◌, ◌++◌, IfOk, OnOk};
 ghost use Rattle.canon_bytes.specs.ByteString.{canon};
 
-use p4_types::code::NoMemory;
-use p4_types::list::ByteList;
+use list_types::{ByteList, NoMemory};
 use std::alloc::Global;
 
 fn push_number(bytes: &mut ByteList, value: u128) -> Result<(), NoMemory>

@@ -3,7 +3,7 @@ ghost use Rattle.std.specs.Prelude.{◌≡◌, Some, None, IfOk, IfErr, OnOk, On
 ghost use Rattle.switch_spec.specs.Control.{with_default};
 ghost use Rattle.table_store.specs.Rising.{AreRising, StandsAt, WouldStandAt};
 
-use p4_types::code::NoMemory;
+use list_types::NoMemory;
 use p4_types::table::{ActionCall, DefaultAction};
 use undo_vec::UndoVec;
 

@@ -11,9 +11,9 @@ ghost use Rattle.control_state.specs.State.{control_of, plane_of, room_in, with_
 use crate::defaults;
 use crate::fixed::Fixed;
 use crate::written::Written;
-use p4_types::code::{Cause, Code, NoMemory};
+use list_types::{List, NoMemory};
+use p4_types::code::{Cause, Code};
 use p4_types::info::Table;
-use p4_types::list::List;
 use p4_types::messages::Update;
 use p4_types::table::{ActionCall, Change, DefaultAction, EntryChange, EntryName, Room};
 use role_arbiter::Roles;

@@ -1,5 +1,5 @@
 //! What writes leave.
-use p4_types::list::List;
+use list_types::List;
 use p4_types::table::DefaultAction;
 use p4info_model::P4Info;
 

@@ -6,8 +6,8 @@ ghost use Rattle.control_state.specs.State.{read_by};
 
 use crate::draft::Draft;
 use crate::fixed::Program;
-use p4_types::code::{Code, NoMemory};
-use p4_types::list::{ByteList, List};
+use list_types::{ByteList, List, NoMemory};
+use p4_types::code::Code;
 use p4_types::messages::Entity;
 use p4_types::table::{DefaultAction, Entry};
 use std::alloc::Global;

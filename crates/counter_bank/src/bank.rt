@@ -7,7 +7,7 @@ use crate::seat::Seat;
 use crate::tally::{Adds, Counting, Notes, Parts, Tally};
 use crate::totals::Totals;
 use atomic_table::Table;
-use p4_types::code::NoMemory;
+use list_types::NoMemory;
 use std::alloc::Global;
 use std::marker::Model;
 

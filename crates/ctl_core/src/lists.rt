@@ -1,8 +1,7 @@
 //! Lists of one item.
 ghost use Rattle.std.specs.Prelude.{◌≡◌, ◌∷◌, [], IfOk};
 
-use p4_types::code::NoMemory;
-use p4_types::list::List;
+use list_types::{List, NoMemory};
 use std::alloc::Global;
 
 pub(crate) fn only<T: Drop>(alloc: Global, item: T) -> Result<List<T>, NoMemory>

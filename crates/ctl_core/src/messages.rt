@@ -6,8 +6,8 @@ ghost use Rattle.ctl_core.specs.Messages.{batch_error};
 ghost use Rattle.switch_spec.specs.Status.{status_bytes, error_bytes, aborted_bytes, value_fields, detail_bytes, write_status, capabilities_bytes};
 
 use crate::lists::only;
-use p4_types::code::{Cause, Code, NoMemory};
-use p4_types::list::{ByteList, List};
+use list_types::{ByteList, List, NoMemory};
+use p4_types::code::{Cause, Code};
 use p4_types::table::Change;
 use std::alloc::Global;
 use wire_fields::Writer;

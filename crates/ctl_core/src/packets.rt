@@ -9,8 +9,7 @@ ghost use Rattle.control_state.specs.Whole.{control_in};
 
 use crate::lists::only;
 use control_state::{Program, State, Written};
-use p4_types::code::NoMemory;
-use p4_types::list::{ByteList, List};
+use list_types::{ByteList, List, NoMemory};
 use p4_types::messages::PacketIn;
 use p4_types::records::HitMark;
 use p4_types::table::{ActionCall, DefaultAction};

@@ -1,9 +1,9 @@
 //! An answer before it takes effect.
 use control_state::Draft;
+use list_types::{ByteList, List};
 use p4_types::calls::Notice;
 use p4_types::code::Code;
 use p4_types::events::Event;
-use p4_types::list::{ByteList, List};
 use role_arbiter::Roles;
 
 /// A reply's code, messages and notices, the events of its call, and what they change.

@@ -5,9 +5,8 @@ ghost use Rattle.p4_types.specs.declared.events.Event.{Event};
 ghost use Rattle.switch_spec.specs.Control as switch;
 ghost use Rattle.switch_spec.specs.Control.{applied, Legal};
 
-use p4_types::code::NoMemory;
+use list_types::{List, NoMemory};
 use p4_types::events::Event;
-use p4_types::list::List;
 
 /// What takes events. `given` is the list that it was given, and `state` the control state behind it.
 pub trait Press {

@@ -9,10 +9,10 @@ use crate::calls::bare;
 use crate::lists::only;
 use crate::prepared::{Effect, Prepared};
 use control_state::State;
+use list_types::{List, NoMemory, Text};
 use p4_types::calls::Notice;
-use p4_types::code::{Code, NoMemory};
+use p4_types::code::Code;
 use p4_types::events::{Event, Origin};
-use p4_types::list::{List, Text};
 use p4_types::messages::{
     Any, MasterArbitrationUpdate, Role, Status, StreamError, StreamErrorDetails,
     StreamMessageRequest, StreamMessageResponse,

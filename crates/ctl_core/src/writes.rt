@@ -9,9 +9,9 @@ ghost use Rattle.ctl_core.specs.Prepared.{IsPrepared};
 use crate::lists::only;
 use crate::messages;
 use crate::prepared::{Effect, Prepared};
-use p4_types::code::{Cause, Code, NoMemory};
+use list_types::{ByteList, List, NoMemory};
+use p4_types::code::{Cause, Code};
 use p4_types::events::{Event, Origin};
-use p4_types::list::{ByteList, List};
 use p4_types::table::Change;
 use std::alloc::Global;
 

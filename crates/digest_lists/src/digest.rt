@@ -4,8 +4,7 @@ ghost use Rattle.digest_lists.specs.State.{natural, list_size, new_digest};
 ghost use Rattle.digest_lists.specs.Sending.{is_fresh, is_passed_over, is_full, first_is_old, is_due, list_of, newest_64, after_sending, sent_by_sample, after_sample, after_ack, timestamp_of};
 
 use crate::samples::{self, Sample, SentList};
-use p4_types::code::NoMemory;
-use p4_types::list::List;
+use list_types::{List, NoMemory};
 use p4_types::messages::{DigestConfig, DigestList, P4Data};
 use std::alloc::Global;
 use std::marker::Model;

@@ -6,7 +6,7 @@ ghost use Rattle.digest_lists.specs.Sending.{is_due};
 ghost use Rattle.digest_lists.specs.Fold.{HasRoom, inserted, with_config, set_digest, take_sample, sent_at_sample, acknowledge, send_due, sent_at_tick};
 
 use crate::digest::Digest;
-use p4_types::code::NoMemory;
+use list_types::NoMemory;
 use p4_types::messages::{DigestConfig, DigestList, P4Data};
 use std::alloc::Global;
 use std::marker::Model;

@@ -3,8 +3,7 @@ ghost use Rattle.std.specs.Prelude.{◌≡◌, map, IfOk};
 ghost use Rattle.digest_lists.specs.Data.{same_members, same_data};
 ghost use Rattle.digest_lists.specs.Sending.{has_sample};
 
-use p4_types::code::NoMemory;
-use p4_types::list::{ByteList, List};
+use list_types::{ByteList, List, NoMemory};
 use p4_types::messages::P4Data;
 use std::alloc::Global;
 

@@ -3,7 +3,7 @@ ghost use Rattle.std.specs.Prelude.{◌≡◌};
 ghost use Rattle.h2_frames.specs.Codes.{code_number};
 ghost use Rattle.h2_frames.specs.declared.codes.FrameError.TheVariants as frame_error;
 
-use p4_types::code::NoMemory;
+use list_types::NoMemory;
 use std::alloc::{AllocError, AllocFailed};
 
 /// A code of an error (RFC 9113, section 7). Its number is the variant's value.

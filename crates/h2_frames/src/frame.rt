@@ -1,5 +1,5 @@
 //! The frames of a connection, by their kinds.
-use p4_types::list::{ByteList, List};
+use list_types::{ByteList, List};
 
 /// The priority of a stream (RFC 9113, section 6.3).
 #[derive(Clone, Copy)]

@@ -8,7 +8,7 @@ ghost use Rattle.h2_frames.specs.Laws.{NumbersFit};
 use crate::codes::{FrameError, H2Code};
 use crate::frame::{Frame, Setting, StreamPriority};
 use crate::head::Head;
-use p4_types::list::{ByteList, List};
+use list_types::{ByteList, List};
 use std::alloc::Global;
 
 const END_STREAM: u8 = 0x1;

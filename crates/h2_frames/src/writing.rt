@@ -6,8 +6,7 @@ ghost use Rattle.h2_frames.specs.Layout.{kind_of, flags_of, stream_of, flag_if, 
 ghost use Rattle.h2_frames.specs.Laws.{PriorityFits, NumbersFit};
 
 use crate::frame::{Frame, Setting, StreamPriority};
-use p4_types::code::NoMemory;
-use p4_types::list::ByteList;
+use list_types::{ByteList, NoMemory};
 use std::alloc::Global;
 
 fn flag_if(is_set: bool, flag: u8) -> u8

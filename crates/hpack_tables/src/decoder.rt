@@ -6,8 +6,7 @@ use crate::fault::BlockError;
 use crate::header::Header;
 use crate::reading::block;
 use crate::table::DynamicTable;
-use p4_types::code::NoMemory;
-use p4_types::list::List;
+use list_types::{List, NoMemory};
 use std::alloc::Global;
 use std::marker::Model;
 

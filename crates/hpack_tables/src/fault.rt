@@ -2,7 +2,7 @@
 ghost use Rattle.std.specs.Prelude.{◌≡◌};
 ghost use Rattle.hpack_tables.specs.declared.fault.BlockError.TheVariants as block_error;
 
-use p4_types::code::NoMemory;
+use list_types::NoMemory;
 use std::alloc::{AllocError, AllocFailed};
 
 /// What is wrong with a header block: the first fault from left to right.

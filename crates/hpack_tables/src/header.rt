@@ -1,8 +1,7 @@
 //! A header.
 ghost use Rattle.std.specs.Prelude.{◌≡◌, IfOk};
 
-use p4_types::code::NoMemory;
-use p4_types::list::ByteList;
+use list_types::{ByteList, NoMemory};
 use std::alloc::Global;
 
 /// A header: its name and its value.

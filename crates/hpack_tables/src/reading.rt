@@ -8,7 +8,7 @@ use crate::header::{Header, copied, copy};
 use crate::integer::integer;
 use crate::strings::{first, string};
 use crate::table::{DynamicTable, MAX_SIZE, entry_size};
-use p4_types::list::{ByteList, List};
+use list_types::{ByteList, List};
 use std::alloc::Global;
 
 // How large the headers of a block may be together.

@@ -9,7 +9,7 @@ use crate::code::{EOS, LONGEST, symbol_of};
 use crate::fault::{BAD_HUFFMAN, BlockError, HpackFault, TRUNCATED};
 use crate::header::copied;
 use crate::integer::integer;
-use p4_types::list::ByteList;
+use list_types::ByteList;
 use std::alloc::Global;
 
 // Bits that are read and not yet decoded: how many, and their number.

@@ -7,8 +7,7 @@ ghost use Rattle.hpack_tables.specs.declared.fault.HpackFault.TheVariants as fau
 use crate::fault::{BAD_INDEX, BlockError};
 use crate::header::{Header, copy};
 use crate::static_table::{STATIC_ENTRIES, static_entry};
-use p4_types::code::NoMemory;
-use p4_types::list::List;
+use list_types::{List, NoMemory};
 use std::alloc::Global;
 use std::collections::VecDeque;
 use std::marker::Model;

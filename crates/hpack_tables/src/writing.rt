@@ -4,8 +4,7 @@ ghost use Rattle.std.specs.List.{flat_map};
 ghost use Rattle.hpack_tables.specs.Writing.{digits, length_bytes, string_bytes, header_bytes, block_bytes};
 
 use crate::header::Header;
-use p4_types::code::NoMemory;
-use p4_types::list::ByteList;
+use list_types::{ByteList, NoMemory};
 use std::alloc::Global;
 
 // The first byte of a literal without indexing whose name is written out.

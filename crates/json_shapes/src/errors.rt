@@ -2,7 +2,7 @@
 ghost use Rattle.std.specs.Prelude.{◌≡◌};
 ghost use Rattle.json_shapes.specs.declared.errors.ShapeError.TheVariants as shape_error;
 
-use p4_types::code::NoMemory;
+use list_types::NoMemory;
 use std::alloc::{AllocError, AllocFailed};
 
 /// A member is missing or of another shape, unless there was no memory.

@@ -7,7 +7,7 @@ ghost use Rattle.serde_json.specs.View.{view, items_view};
 ghost use Rattle.json_shapes.specs.Shapes.{Reads, each_item, list_of, natural_of, required, nullable, optional, list_or_empty, unless_absent, list_unless_absent, nothing_in, has_items, filled};
 
 use crate::errors::ShapeError;
-use p4_types::list::{List, Text};
+use list_types::{List, Text};
 use serde_json::Value;
 use std::alloc::Global;
 

@@ -1,6 +1,6 @@
 // Fields of a byte string.
 use crate::vectors::{Row, run, say, tell};
-use p4_types::code::NoMemory;
+use list_types::NoMemory;
 use pkt_bits::{put, take};
 use std::alloc::Global;
 use std::test::Fail;

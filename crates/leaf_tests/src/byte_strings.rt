@@ -1,7 +1,7 @@
 // Byte strings that are numbers.
 use crate::vectors::{Row, run, say, tell};
 use canon_bytes::{ByteFault, read, write};
-use p4_types::code::NoMemory;
+use list_types::NoMemory;
 use std::alloc::Global;
 use std::test::Fail;
 

@@ -1,6 +1,6 @@
 // Sources, sinks, links, ports, nets, clocks and gates.
 use crate::vectors::{Row, run, say, tell};
-use p4_types::code::NoMemory;
+use list_types::NoMemory;
 use std::alloc::{AllocError, Global};
 use std::test::Fail;
 use sw_edge::{

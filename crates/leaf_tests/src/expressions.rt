@@ -5,7 +5,7 @@ ghost use Rattle.bm_expr.specs.declared.expression.Number.TheVariants.{Literal};
 
 use crate::vectors::{Row, run, tell};
 use bm_expr::{FieldPlace, Number, Store, Truth, is_settled, settled, settled_truth, truth, value};
-use p4_types::code::NoMemory;
+use list_types::NoMemory;
 use pkt_bits::take;
 use std::alloc::Global;
 use std::test::Fail;

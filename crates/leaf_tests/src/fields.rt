@@ -1,6 +1,6 @@
 // Fields of protobuf messages.
 use crate::vectors::{Row, run, say, tell};
-use p4_types::code::NoMemory;
+use list_types::NoMemory;
 use std::alloc::Global;
 use std::test::Fail;
 use wire_fields::{Field, Fields, WireFault, Writer};

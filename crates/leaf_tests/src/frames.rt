@@ -3,8 +3,7 @@ use crate::vectors::{Row, run, say, tell};
 use h2_frames::{
     Frame, FrameError, H2Code, StreamPriority, check_head, read_head, read_payload, write_frame,
 };
-use p4_types::code::NoMemory;
-use p4_types::list::ByteList;
+use list_types::{ByteList, NoMemory};
 use std::alloc::Global;
 use std::test::Fail;
 

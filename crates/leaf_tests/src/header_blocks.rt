@@ -1,8 +1,7 @@
 // Header blocks.
 use crate::vectors::{Row, run, say};
 use hpack_tables::{BlockError, Decoder, Header, HpackFault, encode};
-use p4_types::code::NoMemory;
-use p4_types::list::ByteList;
+use list_types::{ByteList, NoMemory};
 use std::alloc::Global;
 use std::process::Abort;
 use std::test::Fail;

@@ -1,6 +1,6 @@
 // Messages by the numbers of their fields.
 use crate::vectors::{Row, run, say, tell};
-use p4_types::code::NoMemory;
+use list_types::NoMemory;
 use std::alloc::Global;
 use std::test::Fail;
 use wire_messages::{Message, ReadError};

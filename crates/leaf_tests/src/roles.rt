@@ -1,7 +1,7 @@
 // Arbitrations and ends of sessions.
 use crate::vectors::{Row, run, say, tell};
-use p4_types::code::{Code, NoMemory};
-use p4_types::list::{ByteList, Text};
+use list_types::{ByteList, NoMemory, Text};
+use p4_types::code::Code;
 use p4_types::messages::{Any, MasterArbitrationUpdate, Role, Uint128};
 use role_arbiter::{Lanes, Roles};
 use std::alloc::Global;

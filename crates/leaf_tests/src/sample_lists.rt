@@ -1,8 +1,7 @@
 // Samples, acknowledgements and ticks, and the lists that are sent.
 use crate::vectors::{Row, run, say, tell};
 use digest_lists::Lists;
-use p4_types::code::NoMemory;
-use p4_types::list::List;
+use list_types::{List, NoMemory};
 use p4_types::messages::{DigestConfig, DigestList, P4Data};
 use std::alloc::Global;
 use std::test::Fail;

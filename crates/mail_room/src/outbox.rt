@@ -2,7 +2,7 @@
 ghost use Rattle.std.specs.Prelude.{◌≡◌, ◌==◌, ◌≤◌, ◌++◌, ◌↔◌, [], ◌∷◌, length, drop, slice_get, IsErr, IfOk, IfErr, OnOk, OnErr};
 
 use circular_buffer::HeapCircularBuffer;
-use p4_types::code::NoMemory;
+use list_types::NoMemory;
 use std::alloc::Global;
 use std::marker::Model;
 

@@ -1,6 +1,5 @@
 // Messages that the switch sends.
-use p4_types::code::NoMemory;
-use p4_types::list::{ByteList, List, Text};
+use list_types::{ByteList, List, NoMemory, Text};
 use p4_types::messages::{
     Any, CapabilitiesResponse, Cookie, CounterData, DirectCounterEntry, Entity, Error, FieldMatch,
     FieldMatchKind, ForwardingPipelineConfig, GetForwardingPipelineConfigResponse,

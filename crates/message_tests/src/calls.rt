@@ -1,7 +1,7 @@
 // Messages of a client, and the calls that they are.
 use crate::vectors::{Row, run, say, tell};
+use list_types::NoMemory;
 use p4_types::calls::Call;
-use p4_types::code::NoMemory;
 use p4_types::messages::{
     Action, Entity, FieldMatch, FieldMatchKind, TableAction, TableEntry, Update, WriteRequest,
 };

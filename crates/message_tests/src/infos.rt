@@ -1,7 +1,7 @@
 // P4Infos, and what they break.
 use crate::programs;
 use crate::vectors::{Row, run, say, tell};
-use p4_types::code::NoMemory;
+use list_types::NoMemory;
 use p4info_model::{InfoError, read_info, write_info};
 use std::alloc::Global;
 use std::test::Fail;

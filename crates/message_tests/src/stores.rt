@@ -2,8 +2,8 @@
 use crate::programs;
 use crate::vectors::{Row, run, say, tell};
 use crate::writes::{info_of, made, tell_cause, tell_change};
+use list_types::NoMemory;
 use p4_types::calls::Call;
-use p4_types::code::NoMemory;
 use p4_types::messages::Update;
 use p4_types::table::{Change, Entry, EntryChange, Room};
 use p4info_model::P4Info;

@@ -1,5 +1,5 @@
 // Tables of vectors, and the loop that runs one.
-use p4_types::code::NoMemory;
+use list_types::NoMemory;
 use std::alloc::Global;
 use std::fmt::Debug;
 use std::process::Abort;

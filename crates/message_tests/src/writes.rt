@@ -3,8 +3,9 @@ ghost use Rattle.std.specs.Prelude.{◌≡◌, ◌<◌, ◌+◌, All, IfOk};
 
 use crate::vectors::{run, say, tell};
 use crate::{programs, write_rows};
+use list_types::NoMemory;
 use p4_types::calls::Call;
-use p4_types::code::{Cause, NoMemory};
+use p4_types::code::Cause;
 use p4_types::messages::Update;
 use p4_types::table::{Change, Entry, EntryChange, EntryName, Room};
 use p4info_model::{InfoError, P4Info, read_info};

@@ -1,10 +1,10 @@
 //! What controllers ask, and what they are answered.
 use crate::code::Code;
-use crate::list::{ByteList, List};
 use crate::messages::{
     GetForwardingPipelineConfigRequest, ReadRequest, SetForwardingPipelineConfigRequest,
     StreamMessageRequest, StreamMessageResponse, WriteRequest,
 };
+use list_types::{ByteList, List};
 
 /// A call of a controller.
 #[derive(Drop)]

@@ -1,5 +1,4 @@
-//! Answers: the canonical codes, causes, and want of memory.
-use std::alloc::{AllocError, AllocFailed};
+//! Answers: the canonical codes, and causes.
 
 /// A canonical code of `google.rpc.Code`. Its number is the variant's value.
 #[derive(Clone, Copy)]
@@ -37,21 +36,4 @@ impl Code {
 pub struct Cause {
     pub rule: u8,
     pub code: Code,
-}
-
-/// There was no memory for a call.
-#[derive(Clone, Copy, Debug)]
-pub struct NoMemory;
-
-impl From<AllocError> for NoMemory {
-    fn from(_: AllocError) -> NoMemory {
-        NoMemory
-    }
-}
-
-impl<T: Drop> From<AllocFailed<T>> for NoMemory {
-    fn from(failed: AllocFailed<T>) -> NoMemory {
-        drop(failed);
-        NoMemory
-    }
 }

@@ -1,7 +1,7 @@
 //! The start of a switch, and the events that change it.
-use crate::list::List;
 use crate::messages::Uint128;
 use crate::table::Change;
+use list_types::List;
 
 /// With what a switch starts.
 #[derive(Clone, Copy)]

@@ -1,6 +1,6 @@
 //! A valid P4Info: the objects of a program with their references, widths and kinds as types.
-use crate::list::{ByteList, List, Text};
 use crate::p4info::Preamble;
+use list_types::{ByteList, List, Text};
 
 /// The objects of a program, each kind in the order of the P4Info.
 #[derive(Drop)]

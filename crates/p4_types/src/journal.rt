@@ -1,7 +1,7 @@
 //! The journal of a run, and the report that is made of it.
 use crate::calls::Reply;
-use crate::list::{ByteList, List};
 use crate::records::Record;
+use list_types::{ByteList, List};
 
 /// The kind of a step.
 #[derive(Clone, Copy)]

@@ -6,7 +6,6 @@ pub mod code;
 pub mod events;
 pub mod info;
 pub mod journal;
-pub mod list;
 pub mod messages;
 pub mod p4info;
 pub mod records;

@@ -2,7 +2,7 @@
 //! `kind` and `data` is `content`. Enumerations keep their numbers, since a message may bear any number.
 //! A message that may be absent is an `Option`; a choice is an enum of its members, with `None` where
 //! none is given.
-use crate::list::{ByteList, List, Text};
+use list_types::{ByteList, List, Text};
 
 /// A number of 128 bits, as an election id.
 #[derive(Clone, Copy)]

@@ -1,6 +1,6 @@
 //! The messages of a P4Info (p4.config.v1), with the names of their fields. Enumerations keep their
 //! numbers, since a message may bear any number.
-use crate::list::{ByteList, List, Text};
+use list_types::{ByteList, List, Text};
 
 /// What all objects of a program have.
 #[derive(Drop)]

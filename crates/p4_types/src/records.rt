@@ -1,6 +1,6 @@
 //! What became of a packet.
-use crate::list::{ByteList, List};
 use crate::tape::Who;
+use list_types::{ByteList, List};
 
 /// What a packet hit: a table's entry by its sequence number, or a cell of an indirect counter.
 #[derive(Clone, Copy)]

@@ -1,5 +1,5 @@
 //! The entries of a table, and the changes that updates make.
-use crate::list::List;
+use list_types::List;
 
 /// What an entry asks of one field of its table's key.
 #[derive(Clone, Copy)]

@@ -1,5 +1,5 @@
 //! The records of a tape.
-use crate::list::ByteList;
+use list_types::ByteList;
 
 /// A controller's lane or a worker's.
 #[derive(Clone, Copy)]

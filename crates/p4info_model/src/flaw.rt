@@ -3,7 +3,7 @@ ghost use Rattle.std.specs.Prelude.{◌≡◌, IfOk, option_map};
 ghost use Rattle.p4info_model.specs.Flaw.{flaw};
 
 use crate::{references, rules};
-use p4_types::code::NoMemory;
+use list_types::NoMemory;
 use p4_types::p4info::P4Info;
 use std::alloc::Global;
 

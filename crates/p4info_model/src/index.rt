@@ -2,7 +2,7 @@
 ghost use Rattle.std.specs.Prelude.{IfOk};
 
 use crate::places;
-use p4_types::code::NoMemory;
+use list_types::NoMemory;
 use p4_types::info::Info;
 use std::alloc::Global;
 use std::collections::BTreeMap;

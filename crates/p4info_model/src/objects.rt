@@ -6,7 +6,7 @@ ghost use Rattle.p4_types.specs.declared.p4info.Preamble as declared;
 ghost use Rattle.p4info_model.specs.Objects.{id_of, name_of, ids, ids_clash, names_clash, is_of_another_kind};
 
 use crate::repeats;
-use p4_types::code::NoMemory;
+use list_types::NoMemory;
 use p4_types::p4info::{
     Action, ActionProfile, ControllerPacketMetadata, Counter, Digest, DirectCounter, P4Info,
     Preamble, Table,

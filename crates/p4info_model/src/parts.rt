@@ -5,7 +5,7 @@ ghost use Rattle.p4info_model.specs.Numbers.{width_of};
 ghost use Rattle.p4info_model.specs.Objects.{ids_clash};
 
 use crate::{numbers, objects};
-use p4_types::code::NoMemory;
+use list_types::NoMemory;
 use p4_types::p4info::{MatchField, Metadata, Param};
 use std::alloc::Global;
 

@@ -3,7 +3,7 @@ ghost use Rattle.std.specs.Prelude.{◌≡◌, ◌==◌, ℕ, IfOk, OnOk, option
 ghost use Rattle.std.specs.List.{find};
 ghost use Rattle.p4info_model.specs.Lookups.{ArePlaces, PutsFirst};
 
-use p4_types::code::NoMemory;
+use list_types::NoMemory;
 use p4_types::info::{Action, ActionProfile, Counter, Digest, DirectCounter, Table};
 use std::alloc::Global;
 use std::collections::BTreeMap;

@@ -5,7 +5,7 @@ ghost use Rattle.p4info_model.specs.Objects.{id_of};
 ghost use Rattle.p4info_model.specs.Rules.{breaks_i5, lacks_some, differ, same_pair, action_uses, lacks_default, profiles_of_tables, profile_tables, tables_of_profiles, table_counters, counters_of_tables, tables_of_counters};
 
 use crate::{objects, repeats};
-use p4_types::code::NoMemory;
+use list_types::NoMemory;
 use p4_types::p4info::{ActionProfile, ActionRef, DirectCounter, P4Info, Table};
 use std::alloc::Global;
 

@@ -6,7 +6,7 @@ ghost use Rattle.std.specs.BTreeSet.{IsFromIterResult};
 ghost use Rattle.p4info_model.specs.Objects.{repeats};
 ghost use Rattle.p4info_model.specs.Rules.{lacks_some, differ, same_pair};
 
-use p4_types::code::NoMemory;
+use list_types::NoMemory;
 use std::alloc::{AllocError, Global};
 use std::collections::BTreeSet;
 

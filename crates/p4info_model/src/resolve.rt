@@ -5,9 +5,8 @@ ghost use Rattle.p4info_model.specs.Valid.{AreSizesSmall};
 ghost use Rattle.p4info_model.specs.Resolved.{field_of, ref_of, table_of, param_of, action_of, profile_of, unit_of, counter_of, direct_counter_of, header_field_of, header_of, carried, digest_of, info_of};
 
 use crate::numbers;
-use p4_types::code::NoMemory;
+use list_types::{ByteList, List, NoMemory, Text};
 use p4_types::info::{Info, MatchKind, Scope};
-use p4_types::list::{ByteList, List, Text};
 use p4_types::p4info::{CounterSpec, P4Info, Preamble};
 use p4_types::{info, p4info};
 use std::alloc::Global;

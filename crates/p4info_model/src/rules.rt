@@ -6,7 +6,7 @@ ghost use Rattle.p4info_model.specs.Objects.{ids_clash};
 ghost use Rattle.p4info_model.specs.Rules.{breaks_i2, breaks_i3, breaks_i4, breaks_i6, breaks_i7, breaks_i8, breaks_i9, table_breaks_i7, table_breaks_i8, profile_breaks_i8, exceeds_limits, has_two_lpm, bits_of};
 
 use crate::{numbers, objects, parts};
-use p4_types::code::NoMemory;
+use list_types::NoMemory;
 use p4_types::info::MatchKind;
 use p4_types::p4info::{
     Action, ActionProfile, ActionRef, ControllerPacketMetadata, Counter, MatchField, P4Info, Table,

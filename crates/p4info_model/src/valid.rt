@@ -4,7 +4,7 @@ ghost use Rattle.std.specs.Prelude.{◌≡◌, IfSome, option_copied};
 use crate::flaw::InfoFault;
 use crate::index::Index;
 use crate::{flaw, places, resolve};
-use p4_types::code::NoMemory;
+use list_types::NoMemory;
 use p4_types::info::{
     Action, ActionProfile, ControllerHeader, Counter, Digest, DirectCounter, Info, Table,
 };

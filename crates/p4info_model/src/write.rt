@@ -6,8 +6,7 @@ ghost use Rattle.p4v1_wire.specs.Rows.{fields_by};
 ghost use Rattle.wire_fields.specs.Spelling.{spelling};
 
 use crate::valid::P4Info;
-use p4_types::code::NoMemory;
-use p4_types::list::ByteList;
+use list_types::{ByteList, NoMemory};
 use p4v1_wire::write_message;
 use std::alloc::Global;
 

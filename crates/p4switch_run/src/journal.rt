@@ -2,8 +2,7 @@
 ghost use Rattle.std.specs.Prelude.{◌≡◌, ◌==◌, ◌+◌, ◌-◌, ◌^◌, ◌<◌, ◌++◌, [], ◌∷◌, length, count_by, OnOk, OnErr};
 ghost use Rattle.switch_spec.specs.ReportText.{is_who};
 
-use p4_types::code::NoMemory;
-use p4_types::list::List;
+use list_types::{List, NoMemory};
 use p4_types::records::Record;
 use p4_types::tape::Who;
 use std::alloc::Global;

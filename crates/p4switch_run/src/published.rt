@@ -5,10 +5,9 @@ ghost use Rattle.switch_spec.specs.Control.{opened, applied};
 ghost use Rattle.switch_spec.specs.History.{step_of};
 
 use ctl_core::Press;
-use p4_types::code::NoMemory;
+use list_types::{List, NoMemory};
 use p4_types::events::{Event, Start};
 use p4_types::journal::{Step, StepKind};
-use p4_types::list::List;
 use std::alloc::Global;
 
 /// The events that were handed on since the start.

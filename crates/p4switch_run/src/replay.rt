@@ -5,9 +5,8 @@ ghost use Rattle.p4switch_run.specs.Replay.{Answers, IsTextOf, streams};
 
 use crate::session::play_all;
 use crate::status::Status;
-use p4_types::code::NoMemory;
+use list_types::{ByteList, NoMemory};
 use p4_types::events::Start;
-use p4_types::list::ByteList;
 use std::alloc::Global;
 use sw_edge::{Sent, Sink, Source};
 use tape_form::{Tape, TapeFault, TapeRecord};

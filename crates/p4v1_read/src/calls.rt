@@ -4,8 +4,8 @@ ghost use Rattle.p4v1_read.specs.Calls.{call_by, call_of};
 ghost use Rattle.wire_messages.specs.Answers.{ReadsInMemory};
 
 use crate::reading;
+use list_types::NoMemory;
 use p4_types::calls::Call;
-use p4_types::code::NoMemory;
 use std::alloc::Global;
 use wire_messages::ReadError;
 

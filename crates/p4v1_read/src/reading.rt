@@ -7,7 +7,7 @@ ghost use Rattle.wire_fields.specs.Fields.{WireField};
 ghost use Rattle.wire_messages.specs.Answers.{Reads, ReadsInMemory};
 ghost use Rattle.wire_messages.specs.Message.{each, bytes_at, text_at, texts_at, uint32s_at, message_at};
 
-use p4_types::list::{ByteList, List, Text};
+use list_types::{ByteList, List, Text};
 use std::alloc::Global;
 use wire_messages::{Message, ReadError, Unreadable};
 

@@ -7,8 +7,7 @@ ghost use Rattle.wire_messages.specs.Message.{message_at};
 
 use crate::reading;
 use crate::reading::Readable;
-use p4_types::code::NoMemory;
-use p4_types::list::ByteList;
+use list_types::{ByteList, NoMemory};
 use p4_types::messages::{
     Cookie, Entity, ForwardingPipelineConfig, GetForwardingPipelineConfigRequest, ReadRequest,
     SetForwardingPipelineConfigRequest, Uint128, Update, WriteRequest,

@@ -7,7 +7,7 @@ ghost use Rattle.wire_messages.specs.Written.{with_rows};
 
 use crate::writing;
 use crate::writing::Writable;
-use p4_types::code::NoMemory;
+use list_types::NoMemory;
 use p4_types::messages::{
     Action, ActionProfileAction, ActionProfileActionSet, ActionProfileGroup, ActionProfileMember,
     CounterData, CounterEntry, DigestConfig, DigestEntry, DirectCounterEntry, Entity, FieldMatch,

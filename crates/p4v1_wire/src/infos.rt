@@ -5,7 +5,7 @@ ghost use Rattle.p4v1_wire.specs.InfoRows.{kind_number, scope_number};
 
 use crate::writing;
 use crate::writing::Writable;
-use p4_types::code::NoMemory;
+use list_types::NoMemory;
 use p4_types::info::{
     Action, ActionProfile, ActionRef, ControllerHeader, Counter, Digest, DirectCounter,
     HeaderField, Info, MatchField, MatchKind, Param, Scope, Table,

@@ -4,7 +4,7 @@ ghost use Rattle.p4v1_wire.specs.ResponseRows.{CapabilitiesResponseInRange, Conf
 
 use crate::writing;
 use crate::writing::Writable;
-use p4_types::code::NoMemory;
+use list_types::NoMemory;
 use p4_types::messages::{
     CapabilitiesResponse, Cookie, ForwardingPipelineConfig, GetForwardingPipelineConfigResponse,
     ReadResponse,

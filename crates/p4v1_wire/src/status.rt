@@ -4,7 +4,7 @@ ghost use Rattle.p4v1_wire.specs.StatusRows.{AnyInRange, ErrorInRange, StatusInR
 
 use crate::writing;
 use crate::writing::Writable;
-use p4_types::code::NoMemory;
+use list_types::NoMemory;
 use p4_types::messages::{Any, Error, Status};
 use std::alloc::Global;
 use wire_fields::Writer;

@@ -6,8 +6,7 @@ ghost use Rattle.wire_messages.specs.Written.{with_rows};
 
 use crate::writing;
 use crate::writing::Writable;
-use p4_types::code::NoMemory;
-use p4_types::list::{ByteList, List};
+use list_types::{ByteList, List, NoMemory};
 use p4_types::messages::{
     DigestList, DigestListAck, IdleTimeoutNotification, MasterArbitrationUpdate, P4Data, PacketIn,
     PacketMetadata, PacketOut, Role, StreamError, StreamErrorDetails, StreamMessageResponse,

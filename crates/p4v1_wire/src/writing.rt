@@ -6,8 +6,7 @@ ghost use Rattle.p4v1_wire.specs.Rows.{fields_by};
 ghost use Rattle.wire_fields.specs.Spelling.{spelling};
 ghost use Rattle.wire_messages.specs.Written.{Row, Messages, Message, Present, Carried, row, row_bytes, with_rows, written};
 
-use p4_types::code::NoMemory;
-use p4_types::list::ByteList;
+use list_types::{ByteList, NoMemory};
 use std::alloc::Global;
 use wire_fields::Writer;
 use wire_messages::write;

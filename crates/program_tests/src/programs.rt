@@ -2,7 +2,7 @@
 // out, and at each limit.
 use crate::configs::{BRIDGE, FLOOD, LAB, ROUTER};
 use bm_json::{JsonError, read_json};
-use p4_types::code::NoMemory;
+use list_types::NoMemory;
 use std::alloc::Global;
 use std::test::Fail;
 

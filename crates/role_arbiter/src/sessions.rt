@@ -8,7 +8,8 @@ ghost use Rattle.role_arbiter.specs.Telling.{same_config, differs};
 
 use crate::changes::ROLE_LIMIT;
 use crate::numbers::{Ids, SESSION_LIMIT};
-use p4_types::code::{Code, NoMemory};
+use list_types::NoMemory;
+use p4_types::code::Code;
 use p4_types::messages::Uint128;
 use std::alloc::Global;
 

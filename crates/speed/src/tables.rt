@@ -1,9 +1,8 @@
 // Look-ups in a table of routes, and changes of another table beside it.
 ghost use Rattle.std.specs.Prelude.{◌≡◌, ◌<◌, ◌+◌, ◌-◌, ◌^◌, All, IfOk};
 
-use p4_types::code::NoMemory;
+use list_types::{List, NoMemory, Text};
 use p4_types::info::Table;
-use p4_types::list::{List, Text};
 use p4_types::p4info::Preamble;
 use p4_types::table::{ActionCall, EntryChange, EntryName, FieldTest, Room};
 use std::alloc::Global;

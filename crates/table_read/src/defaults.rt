@@ -8,8 +8,7 @@ ghost use Rattle.table_read.specs.Answered.{answered_defaults};
 
 use crate::plane::PlaneView;
 use crate::{order, showing};
-use p4_types::code::NoMemory;
-use p4_types::list::List;
+use list_types::{List, NoMemory};
 use p4_types::messages::{Entity, TableEntry};
 use p4_types::table::DefaultAction;
 use p4info_model::P4Info;

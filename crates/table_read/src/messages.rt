@@ -3,8 +3,7 @@ ghost use Rattle.std.specs.Prelude.{◌≡◌, ◌≤◌, ◌<◌, map, length, 
 ghost use Rattle.switch_spec.specs.Reading.{response_bytes, chunks};
 ghost use Rattle.table_read.specs.Answered.{Continues, HasRoom};
 
-use p4_types::code::NoMemory;
-use p4_types::list::{ByteList, List};
+use list_types::{ByteList, List, NoMemory};
 use p4_types::messages::{Entity, ReadResponse};
 use p4v1_wire::write_message;
 use std::alloc::Global;

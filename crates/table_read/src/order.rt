@@ -2,7 +2,7 @@
 ghost use Rattle.std.specs.Prelude.{◌≡◌, ◌≤◌, ℕ, ◌++◌, ◌∷◌, length, take, drop, OnOk};
 ghost use Rattle.switch_spec.specs.Reading.{placed};
 
-use p4_types::code::NoMemory;
+use list_types::NoMemory;
 use p4_types::messages::{FieldMatch, Param};
 
 /// An item with a number.

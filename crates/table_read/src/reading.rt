@@ -6,8 +6,8 @@ ghost use Rattle.switch_spec.specs.Reading.{read_unless, first_of, entity_refusa
 
 use crate::plane::PlaneView;
 use crate::{defaults, messages, refusals, selecting};
-use p4_types::code::{Code, NoMemory};
-use p4_types::list::{ByteList, List};
+use list_types::{ByteList, List, NoMemory};
+use p4_types::code::Code;
 use p4_types::messages::{Entity, TableEntry};
 use p4_types::table::DefaultAction;
 use p4info_model::P4Info;

@@ -10,9 +10,8 @@ ghost use Rattle.write_rules.specs.Widths.{HasWidths};
 
 use crate::plane::PlaneView;
 use crate::showing;
-use p4_types::code::NoMemory;
+use list_types::{List, NoMemory};
 use p4_types::info::Table;
-use p4_types::list::List;
 use p4_types::messages::{Entity, TableEntry};
 use p4_types::table::{Entry, EntryName};
 use p4info_model::P4Info;

@@ -5,10 +5,9 @@ ghost use Rattle.switch_spec.specs.Reading.{shown_kind, shown_match, matches_in,
 
 use crate::order;
 use canon_bytes::write;
-use p4_types::code::NoMemory;
+use list_types::{List, NoMemory};
 use p4_types::info;
 use p4_types::info::{MatchField, MatchKind, Table};
-use p4_types::list::List;
 use p4_types::messages::{Action, FieldMatch, FieldMatchKind, Param, TableAction, TableEntry};
 use p4_types::table::{ActionCall, DefaultAction, Entry, FieldTest};
 use p4info_model::P4Info;

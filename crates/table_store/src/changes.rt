@@ -9,7 +9,7 @@ use crate::causes::{absence_cause, insert_cause, is_counted};
 use crate::copies::{copy_action, copy_name};
 use crate::error::StoreError;
 use crate::groups::{self, Group};
-use p4_types::code::NoMemory;
+use list_types::NoMemory;
 use p4_types::info::Table;
 use p4_types::table::{Entry, EntryChange, EntryName, Room};
 use std::alloc::Global;

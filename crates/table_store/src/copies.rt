@@ -1,8 +1,7 @@
 //! Copies of what an entry holds.
 ghost use Rattle.std.specs.Prelude.{◌≡◌, IfOk};
 
-use p4_types::code::NoMemory;
-use p4_types::list::List;
+use list_types::{List, NoMemory};
 use p4_types::table::{ActionCall, EntryName};
 use std::alloc::Global;
 

@@ -7,7 +7,7 @@ use crate::changes;
 use crate::error::StoreError;
 use crate::groups::{self, Group};
 use crate::store::TableStore;
-use p4_types::code::NoMemory;
+use list_types::NoMemory;
 use p4_types::info::Table;
 use p4_types::table::{EntryChange, EntryName, Room};
 use std::alloc::Global;

@@ -1,5 +1,6 @@
 //! Why a change of the tables is not made.
-use p4_types::code::{Cause, NoMemory};
+use list_types::NoMemory;
+use p4_types::code::Cause;
 
 /// There was no memory, or the change is refused.
 #[derive(Clone, Copy)]

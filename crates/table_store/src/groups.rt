@@ -8,7 +8,7 @@ ghost use Rattle.table_store.specs.Groups.{flat, AreGroups, IsAt, IsGap, IsFresh
 ghost use Rattle.table_store.specs.Drafts.{was, WasGroup, IsTouched, IsStep};
 
 use crate::rows;
-use p4_types::code::NoMemory;
+use list_types::NoMemory;
 use p4_types::table::{Entry, EntryChange, EntryName};
 use std::alloc::Global;
 use undo_vec::UndoVec;

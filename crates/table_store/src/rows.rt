@@ -8,7 +8,7 @@ ghost use Rattle.table_store.specs.Scan.{wins};
 
 use crate::copies::{copy_action, copy_name};
 use crate::matching::{beats, hits, same_name};
-use p4_types::code::NoMemory;
+use list_types::NoMemory;
 use p4_types::table::{Entry, EntryChange, EntryName};
 use std::alloc::Global;
 use undo_vec::UndoVec;

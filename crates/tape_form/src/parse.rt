@@ -4,7 +4,7 @@ ghost use Rattle.switch_spec.specs.TapeReading.{number_at, bytes_at, call_at, pa
 ghost use Rattle.tape_form.specs.Parsed.{Gives, GivesAll};
 ghost use Rattle.tape_form.specs.declared.parse.ReadFault.TheVariants as faults;
 
-use p4_types::list::ByteList;
+use list_types::ByteList;
 use p4_types::tape::TapeRecord;
 use std::alloc::{AllocError, AllocFailed, Global};
 

@@ -10,9 +10,8 @@ mod words;
 use crate::report::journal::push_journal;
 use crate::report::lines::{push_end, push_lines};
 use crate::report::packets::push_packets;
-use p4_types::code::NoMemory;
+use list_types::{ByteList, NoMemory};
 use p4_types::journal::Report;
-use p4_types::list::ByteList;
 use std::alloc::{AllocError, Global};
 
 /// The text of a report, in ASCII; each line ends with LF.

@@ -4,7 +4,7 @@ ghost use Rattle.std.specs.List.{insert, remove};
 ghost use Rattle.undo_vec.specs.Undo.{back, backs, Fits, CanUndo};
 
 use crate::edit::Edit;
-use p4_types::code::NoMemory;
+use list_types::NoMemory;
 use std::alloc::Global;
 use std::marker::Model;
 use std::mem;

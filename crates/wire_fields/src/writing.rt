@@ -3,7 +3,7 @@ ghost use Rattle.std.specs.Prelude.{◌≡◌, ◌<◌, ◌≤◌, [], ◌++◌,
 ghost use Rattle.wire_fields.specs.Fields.{WireField};
 ghost use Rattle.wire_fields.specs.Spelling.{varint, field_bytes, number_field, bytes_field};
 
-use p4_types::code::NoMemory;
+use list_types::NoMemory;
 use std::alloc::Global;
 use std::marker::Model;
 

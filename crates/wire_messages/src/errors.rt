@@ -2,7 +2,7 @@
 ghost use Rattle.std.specs.Prelude.{◌≡◌};
 ghost use Rattle.wire_messages.specs.declared.errors.ReadError.TheVariants as read_error;
 
-use p4_types::code::NoMemory;
+use list_types::NoMemory;
 use std::alloc::{AllocError, AllocFailed};
 use wire_fields::WireFault;
 

@@ -6,7 +6,7 @@ ghost use Rattle.std.specs.Option.{option_map};
 ghost use Rattle.wire_fields.specs.Spelling.{varint};
 ghost use Rattle.wire_messages.specs.Written.{Uint32, Uint64, Int32, Int64, Flag, ByteString, Text, Texts, Packed, Carried, ChosenUint32, ChosenBytes, InRange, row_bytes, two_complement};
 
-use p4_types::code::NoMemory;
+use list_types::NoMemory;
 use std::alloc::Global;
 use wire_fields::Writer;
 
@@ -190,11 +190,7 @@ pub fn packed(
 }
 
 /// A repeated `string` field: each text, also an empty one. Where memory is out, some may be added.
-pub fn texts(
-    writer: &mut Writer,
-    number: u32,
-    values: &[p4_types::list::Text],
-) -> Result<(), NoMemory>
+pub fn texts(writer: &mut Writer, number: u32, values: &[list_types::Text]) -> Result<(), NoMemory>
     requires not_zero { 1 ≤ number }
     requires in_range { number ≤ 536870911 }
     ensures ok { OnOk result (writer.new ≡ writer.old ++ row_bytes number (Texts values.now)) }

@@ -8,10 +8,10 @@ ghost use Rattle.p4info_model.specs.Valid.{IsWidth};
 ghost use Rattle.write_rules.specs.Widths.{HasParamWidths};
 
 use crate::numbers;
-use p4_types::code::{Code, NoMemory};
+use list_types::{List, NoMemory};
+use p4_types::code::Code;
 use p4_types::info;
 use p4_types::info::{Scope, Table};
-use p4_types::list::List;
 use p4_types::messages::{Action, Param};
 use p4_types::table::ActionCall;
 use std::alloc::Global;

@@ -7,9 +7,9 @@ ghost use Rattle.write_rules.specs.Answers.{Resolves};
 ghost use Rattle.write_rules.specs.Widths.{HasWidths, HasParamWidths};
 
 use crate::{actions, matches, rules};
-use p4_types::code::{Cause, Code, NoMemory};
+use list_types::{List, NoMemory};
+use p4_types::code::{Cause, Code};
 use p4_types::info::Table;
-use p4_types::list::List;
 use p4_types::messages::{Action, Entity, TableAction, TableEntry, Update};
 use p4_types::table::{ActionCall, Change, EntryChange, EntryName, FieldTest, UpdateKind};
 use p4info_model::P4Info;

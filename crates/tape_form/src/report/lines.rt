@@ -6,8 +6,8 @@ ghost use Rattle.switch_spec.specs.Text.{line};
 ghost use Rattle.switch_spec.specs.ReportText.{sent_line, count_line, cell_line};
 
 use crate::report::words::push_hex;
+use list_types::ByteList;
 use p4_types::journal::{CellLine, CountLine};
-use p4_types::list::ByteList;
 use std::alloc::{AllocError, Global};
 
 /// What a report shows as a line.

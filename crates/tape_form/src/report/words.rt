@@ -3,8 +3,8 @@ ghost use Rattle.std.specs.Prelude.{◌≡◌, ◌++◌, ℕ, List, OnOk, string
 ghost use Rattle.switch_spec.specs.Text.{hex_word, list_word, option_word};
 ghost use Rattle.switch_spec.specs.ReportText.{kind_word, who_word, fate_word, tagged_word, cpu_word, mark_word};
 
+use list_types::ByteList;
 use p4_types::journal::StepKind;
-use p4_types::list::ByteList;
 use p4_types::records::HitMark;
 use p4_types::tape::Who;
 use std::alloc::{AllocError, Global};

@@ -1,7 +1,7 @@
 use Rattle.std.proofs.Common.{◌≡◌, ℕ, List, Option, Some, Result, Ok, Err, IfOk, OnOk, sym, ap, ◌∙◌}
 use Rattle.std.specs.List.{position, find}
 use Rattle.std.specs.Option.{option_and_then}
-use Rattle.p4_types.specs.declared.code.NoMemory.{NoMemory}
+use Rattle.list_types.specs.declared.memory.NoMemory.{NoMemory}
 use Rattle.p4_types.specs.declared.messages.DigestList.{DigestList}
 use Rattle.p4_types.specs.declared.messages.P4Data.{P4Data}
 use Rattle.digest_lists.specs.State.{DigestState}
