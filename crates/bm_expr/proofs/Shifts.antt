@@ -1,7 +1,7 @@
 -- Shifts by 128 and more, and masks.
 use Rattle.std.proofs.Common.{◌≡◌, ℕ, ◌+◌, ◌-◌, ◌*◌, ◌/◌, ◌%◌, ◌^◌, ◌<◌, ◌≤◌, sym, ap, ◌∙◌, arith, lit<}
-use Rattle.std.proofs.lemmas.Nat.{pow-add, one_shl, and_mask}
-use Rattle.std.proofs.Math.Nat.{mul_assoc, div-eq_of_lt, pow-le-pow_right, mul-mod_left}
+use Rattle.std.proofs.lemmas.Nat.{pow-add, one_shl, and_mask, pow_pos}
+use Rattle.std.proofs.Math.Nat.{mul_assoc, div-eq_of_lt, pow-le-pow_right, mul-mod_left, mod-lt}
 use Rattle.std.specs.Int.Bits.{bit_and}
 
 pub masked : (value width : ℕ) → width < 128 → bit_and value (1 * 2 ^ width % 340282366920938463463374607431768211456 - 1) ≡ value % 2 ^ width
@@ -16,3 +16,7 @@ pub right_out : (value amount : ℕ) → 128 ≤ amount → value < 2 ^ 128 → 
 right_out value amount le lt =
     let big : 2 ^ 128 ≤ 2 ^ amount = pow-le-pow_right {n = 2} (lit< tt) {i = 128} {j = amount} le in
     sym (div-eq_of_lt (omega arith))
+
+-- a number of `width` bits
+pub cut_fits : (value width : ℕ) → value % 2 ^ width < 2 ^ width
+cut_fits value width = mod-lt value (pow_pos width)

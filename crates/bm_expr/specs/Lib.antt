@@ -1,4 +1,5 @@
 pub mod Store
+pub mod Fits
 pub mod Meaning
 pub mod Settled
 pub mod Whole

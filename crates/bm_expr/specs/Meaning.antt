@@ -1,11 +1,12 @@
 -- What an expression means, and where it may be asked.
-use Rattle.std.specs.Prelude.{ℕ, Bool, not, ◌&&◌, ◌||◌, if◌then◌else◌, List, length, slice_index, ◌+◌, ◌-◌, ◌*◌, ◌/◌, ◌%◌, ◌^◌, ◌<◌, ◌==◌, nat_lt, nat_le, bit_and, bit_or, bit_xor}
-use Rattle.bm_expr.specs.declared.store.FieldPlace.{FieldPlace}
+use Rattle.std.specs.Prelude.{ℕ, Bool, not, ◌&&◌, ◌||◌, if◌then◌else◌, List, length, slice_index, ◌+◌, ◌-◌, ◌*◌, ◌/◌, ◌%◌, ◌^◌, ◌==◌, nat_lt, nat_le, bit_and, bit_or, bit_xor}
 use Rattle.bm_expr.specs.declared.expression.Number.{Number}
 use Rattle.bm_expr.specs.declared.expression.Number.TheVariants.{Field, Literal, Datum, Add', Subtract', Multiply', ShiftLeft', ShiftRight', BitAnd', BitOr', BitXor', BitNot', Choose', OfTruth'}
 use Rattle.bm_expr.specs.declared.expression.Truth.{Truth}
 use Rattle.bm_expr.specs.declared.expression.Truth.TheVariants.{Constant, Equal', NotEqual', Less', LessOrEqual', Greater', GreaterOrEqual', And', Or', Not', Select', IsValid, OfNumber'}
 use Rattle.bm_expr.specs.Store.{Contents, header_valid, field_read}
+use Rattle.bm_expr.specs.Fits.{NumberFits, TruthFits}
+use Rattle.bm_expr.specs.declared.fitting.Counts.{Counts}
 
 -- Each operator keeps the lowest 128 bits of its result.
 abbrev mutual
@@ -42,42 +43,14 @@ abbrev mutual
   truth_value store args (IsValid header) = header_valid store header
   truth_value store args (OfNumber' _ x) = not (number_value store args x == 0)
 
--- a field and its header stand in the store
-pub record FieldInStore (store : Contents) (place : FieldPlace) : Type 0 where
-  pub field : place.index < length store.fields
-  pub header : place.header < length store.valid
+-- how many fields, headers and data there are where an expression is asked
+abbrev pub counts_of : Contents → List ℕ → Counts
+counts_of store args = record { fields = length store.fields; headers = length store.valid; args = length args }
 
--- The fields and headers that an expression names stand in the store, its data are there, and its literals have 128 bits.
-abbrev mutual
-  -- so it is with an expression that is a number
-  pub NumberInStore : Contents → List ℕ → Number → Type 0
-  NumberInStore store args (Field place) = FieldInStore store place
-  NumberInStore store args (Literal n) = n < 2 ^ 128
-  NumberInStore store args (Datum i) = i < length args
-  NumberInStore store args (Add' _ x _ y) = NumberInStore store args x × NumberInStore store args y
-  NumberInStore store args (Subtract' _ x _ y) = NumberInStore store args x × NumberInStore store args y
-  NumberInStore store args (Multiply' _ x _ y) = NumberInStore store args x × NumberInStore store args y
-  NumberInStore store args (ShiftLeft' _ x _ y) = NumberInStore store args x × NumberInStore store args y
-  NumberInStore store args (ShiftRight' _ x _ y) = NumberInStore store args x × NumberInStore store args y
-  NumberInStore store args (BitAnd' _ x _ y) = NumberInStore store args x × NumberInStore store args y
-  NumberInStore store args (BitOr' _ x _ y) = NumberInStore store args x × NumberInStore store args y
-  NumberInStore store args (BitXor' _ x _ y) = NumberInStore store args x × NumberInStore store args y
-  NumberInStore store args (BitNot' _ x) = NumberInStore store args x
-  NumberInStore store args (Choose' _ c _ x _ y) = TruthInStore store args c × NumberInStore store args x × NumberInStore store args y
-  NumberInStore store args (OfTruth' _ t) = TruthInStore store args t
+-- an expression that is a number may be asked of this store with these data
+abbrev pub NumberInStore : Contents → List ℕ → Number → Type 0
+NumberInStore store args number = NumberFits (counts_of store args) number
 
-  -- the same for an expression that is a truth value
-  pub TruthInStore : Contents → List ℕ → Truth → Type 0
-  TruthInStore store args (Constant b) = Unit
-  TruthInStore store args (Equal' _ x _ y) = NumberInStore store args x × NumberInStore store args y
-  TruthInStore store args (NotEqual' _ x _ y) = NumberInStore store args x × NumberInStore store args y
-  TruthInStore store args (Less' _ x _ y) = NumberInStore store args x × NumberInStore store args y
-  TruthInStore store args (LessOrEqual' _ x _ y) = NumberInStore store args x × NumberInStore store args y
-  TruthInStore store args (Greater' _ x _ y) = NumberInStore store args x × NumberInStore store args y
-  TruthInStore store args (GreaterOrEqual' _ x _ y) = NumberInStore store args x × NumberInStore store args y
-  TruthInStore store args (And' _ s _ t) = TruthInStore store args s × TruthInStore store args t
-  TruthInStore store args (Or' _ s _ t) = TruthInStore store args s × TruthInStore store args t
-  TruthInStore store args (Not' _ t) = TruthInStore store args t
-  TruthInStore store args (Select' _ c _ s _ t) = TruthInStore store args c × TruthInStore store args s × TruthInStore store args t
-  TruthInStore store args (IsValid header) = header < length store.valid
-  TruthInStore store args (OfNumber' _ x) = NumberInStore store args x
+-- the same of one that is a truth value
+abbrev pub TruthInStore : Contents → List ℕ → Truth → Type 0
+TruthInStore store args truth = TruthFits (counts_of store args) truth

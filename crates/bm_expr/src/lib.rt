@@ -2,6 +2,7 @@
 #![tactic(auto)]
 
 mod expression;
+mod fitting;
 pub mod laws;
 mod meaning;
 mod operators;
@@ -9,6 +10,8 @@ mod settling;
 mod store;
 
 pub use expression::{Number, Truth};
+pub use fitting::{Counts, fits, fits_truth};
 pub use meaning::{truth, value};
+pub use operators::cut;
 pub use settling::{is_settled, settled, settled_truth};
-pub use store::{FieldPlace, Store};
+pub use store::{FieldPlace, HeaderPlace, Store};

@@ -1,11 +1,12 @@
 //! Shifts and cuts of 128 bits that are defined for every amount.
-ghost use Rattle.std.specs.Prelude.{◌≡◌, ◌*◌, ◌/◌, ◌%◌, ◌^◌, ◌≤◌};
+ghost use Rattle.std.specs.Prelude.{◌≡◌, ◌*◌, ◌/◌, ◌%◌, ◌^◌, ◌<◌, ◌≤◌};
 
-/// The lowest `width` bits.
-#[tactic(auto, using(crate::proofs::Shifts::masked))]
+/// The lowest `width` bits of a number, which a field of this width has room for.
+#[tactic(auto, using(crate::proofs::Shifts::masked, crate::proofs::Shifts::cut_fits))]
 pub fn cut(value: u128, width: u32) -> u128
     requires width { width ≤ 128 }
-    ensures { result ≡ value % 2 ^ width }
+    ensures number { result ≡ value % 2 ^ width }
+    ensures fits { result < 2 ^ width }
 {
     if width < 128 {
         value & ((1 << width) - 1)

@@ -1,6 +1,7 @@
 //! The fields and valid headers of one packet.
-ghost use Rattle.std.specs.Prelude.{◌≡◌, ◌<◌, ◌≤◌, false, length, replicate, IfOk};
-ghost use Rattle.bm_expr.specs.Store.{Contents, header_valid, field_read, field_written, validity_written};
+ghost use Rattle.std.specs.Prelude.{◌≡◌, ◌⊎◌, ◌+◌, ◌<◌, ◌≤◌, length, replicate, IfOk};
+ghost use Rattle.std.specs.List.{splice, slice_range};
+ghost use Rattle.bm_expr.specs.Store.{header_valid, field_read, field_written, validity_written, assigned, cleared, header_added, header_assigned, AreApart};
 
 use crate::operators::cut;
 use list_types::NoMemory;
@@ -13,6 +14,41 @@ pub struct FieldPlace {
     pub index: usize,
     pub header: usize,
     pub width: u32,
+}
+
+/// A header, whose fields stand side by side.
+#[derive(Clone, Copy)]
+pub struct HeaderPlace {
+    pub header: usize,
+    /// Where the first of its fields stands.
+    pub first: usize,
+    /// How many fields it has.
+    pub count: usize,
+}
+
+// Makes the numbers from one place on 0.
+fn zero(fields: &mut [u128], first: usize, count: usize)
+    requires { first + count ≤ length fields.old }
+    ensures { fields.new ≡ splice fields.old first (first + count) (replicate count 0) }
+{
+    fields[first..first + count].fill(0);
+}
+
+// Copies `count` numbers from one place to another, where the two runs do not overlap.
+#[tactic(auto, using(crate::proofs::Copies::to_the_right, crate::proofs::Copies::to_the_left))]
+fn copy(fields: &mut [u128], from: usize, to: usize, count: usize)
+    requires from { from + count ≤ length fields.old }
+    requires to { to + count ≤ length fields.old }
+    requires apart { (from + count ≤ to) ⊎ (to + count ≤ from) }
+    ensures { fields.new ≡ splice fields.old to (to + count) (slice_range fields.old from (from + count)) }
+{
+    if from < to {
+        let (left, right) = fields.split_at_mut(to);
+        right[..count].copy_from_slice(&left[from..from + count]);
+    } else {
+        let (left, right) = fields.split_at_mut(from);
+        left[to..to + count].copy_from_slice(&right[..count]);
+    }
 }
 
 /// The number of each field and the validity of each header.
@@ -33,7 +69,7 @@ impl Model for Store {
 impl Store {
     /// A store in which no header is valid and every field is 0.
     pub fn open(alloc: Global, fields: usize, headers: usize) -> Result<Store, NoMemory>
-        ensures { IfOk result (λ store. store ≡ record { fields = replicate fields 0; valid = replicate headers false }) }
+        ensures { IfOk result (λ store. store ≡ cleared fields headers) }
     {
         let fields = vec![in alloc; 0u128; fields]?;
         let valid = vec![in alloc; false; headers]?;
@@ -53,7 +89,8 @@ impl Store {
         }
     }
 
-    /// Writes a field, of which the number's lowest `width` bits are kept. The field of an invalid header still reads 0.
+    /// Writes a field, of which the number's lowest `width` bits are kept, whether its header is valid or not. The field of
+    /// an invalid header still reads 0.
     pub fn set_field(&mut self, place: FieldPlace, value: u128)
         requires field_in_store { place.index < length self.old.fields }
         requires width { place.width ≤ 128 }
@@ -75,5 +112,51 @@ impl Store {
         ensures { self.new ≡ validity_written self.old header valid }
     {
         self.valid[header] = valid;
+    }
+
+    /// Assigns to a field, as [`Store::set_field`]; one of an invalid header stays as it is.
+    pub fn assign(&mut self, place: FieldPlace, value: u128)
+        requires field_in_store { place.index < length self.old.fields }
+        requires header_in_store { place.header < length self.old.valid }
+        requires width { place.width ≤ 128 }
+        ensures { self.new ≡ assigned self.old place value }
+    {
+        if self.valid[place.header] {
+            self.fields[place.index] = cut(value, place.width);
+        }
+    }
+
+    /// Makes an invalid header valid with all its fields 0. A valid one stays as it is.
+    pub fn add_header(&mut self, place: HeaderPlace)
+        requires header_in_store { place.header < length self.old.valid }
+        requires fields_in_store { place.first + place.count ≤ length self.old.fields }
+        ensures { self.new ≡ header_added self.old place }
+    {
+        if !self.valid[place.header] {
+            zero(&mut self.fields, place.first, place.count);
+            self.valid[place.header] = true;
+        }
+    }
+
+    /// Gives a header the validity and the fields of another one with as many fields; from an invalid one it is invalid.
+    pub fn assign_header(&mut self, to: HeaderPlace, from: HeaderPlace)
+        requires from_in_store { from.header < length self.old.valid }
+        requires to_in_store { to.header < length self.old.valid }
+        requires from_fields { from.first + from.count ≤ length self.old.fields }
+        requires to_fields { to.first + to.count ≤ length self.old.fields }
+        requires as_many { to.count ≡ from.count }
+        requires apart { AreApart from to }
+        ensures { self.new ≡ header_assigned self.old to from }
+    {
+        copy(&mut self.fields, from.first, to.first, from.count);
+        self.valid[to.header] = self.valid[from.header];
+    }
+
+    /// Makes each header invalid and each field 0, as in a store that was just opened. It takes no memory.
+    pub fn clear(&mut self)
+        ensures { self.new ≡ cleared (length self.old.fields) (length self.old.valid) }
+    {
+        self.fields.fill(0);
+        self.valid.fill(false);
     }
 }

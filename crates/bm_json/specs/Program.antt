@@ -21,7 +21,7 @@ lists_state d = has_items (codes "register_arrays") d || has_items (codes "meter
 
 -- value sets, stacks or unions are listed
 abbrev pub lists_stacks : Data → Bool
-lists_stacks d = has_items (codes "parse_vsets") d || has_items (codes "header_stacks") d || has_items (codes "header_unions") d || has_items (codes "header_union_stacks") d
+lists_stacks d = has_items (codes "parse_vsets") d || has_items (codes "header_stacks") d || has_items (codes "header_unions") d || has_items (codes "header_union_types") d || has_items (codes "header_union_stacks") d
 
 -- objects that are left out are listed: some of those above
 unfoldable pub lists_left_out : Data → Bool

@@ -32,6 +32,7 @@ fn lists_stacks(value: &Value) -> bool
     shapes::has_items(value, "parse_vsets")
         || shapes::has_items(value, "header_stacks")
         || shapes::has_items(value, "header_unions")
+        || shapes::has_items(value, "header_union_types")
         || shapes::has_items(value, "header_union_stacks")
 }
 

@@ -17,7 +17,7 @@ use Rattle.bm_records.specs.declared.raw.LearnList.{LearnList}
 use Rattle.bm_values.specs.declared.kinds.ValueKind.{ValueKind}
 use Rattle.bm_values.specs.declared.kinds.ValueKind.TheVariants as kinds
 use Rattle.json_shapes.specs.Shapes.{◌>>=◌, natural_of, required, optional, list_of, unless_absent}
-use Rattle.bm_values.specs.Literals.{literal_of, width_of}
+use Rattle.bm_values.specs.Literals.{literal_of, width_of, field_width_of}
 use Rattle.json_shapes.specs.Arrays.{item_count, item_at}
 use Rattle.bm_values.specs.Values.{kind_of, field_name, field_value}
 use Rattle.bm_values.specs.Expressions.{expression_of}
@@ -37,8 +37,8 @@ type_field_of d = do
   n ← item_count d
   signed ← sign_by n d
   name ← item_at as_str 0 d
-  width ← item_at width_of 1 d
-  Some (record { name = name; width = width_with signed width })
+  given ← item_at field_width_of 1 d
+  Some (record { name = name; width = width_with signed given.width })
 
 -- a header type: its name and its fields
 unfoldable pub header_type_of : Data → Option HeaderType

@@ -9,6 +9,7 @@ use crate::raw::{
     LearnList, Part, RawWidth, TypeField,
 };
 use bm_values::kinds::ValueKind;
+use bm_values::raw::FieldWidth;
 use bm_values::values;
 use json_shapes::shapes::{self, FromJson};
 use json_shapes::{ShapeError, arrays};
@@ -39,10 +40,10 @@ impl FromJson for TypeField {
         let count = arrays::item_count(value)?;
         let signed = sign_by(alloc, count, value)?;
         let name = arrays::item_at(alloc, value, 0)?;
-        let width = arrays::item_at(alloc, value, 1)?;
+        let given: FieldWidth = arrays::item_at(alloc, value, 1)?;
         Ok(TypeField {
             name,
-            width: width_with(signed, width),
+            width: width_with(signed, given.width),
         })
     }
 }

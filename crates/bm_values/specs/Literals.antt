@@ -6,6 +6,7 @@ use Rattle.serde_json.specs.Data.{Data}
 use Rattle.serde_json.specs.Find.{as_str}
 use Rattle.bm_values.specs.declared.raw.Part.{Part}
 use Rattle.bm_values.specs.declared.raw.Part.TheVariants.{Served, LeftOut}
+use Rattle.bm_values.specs.declared.raw.FieldWidth.{FieldWidth}
 use Rattle.json_shapes.specs.Shapes.{◌>>=◌, natural_of}
 
 -- the value of a hex digit
@@ -46,11 +47,15 @@ literal_of d = as_str d >>= literal_text
 abbrev pub width_in : ℕ → Option (Part ℕ)
 width_in bits = if bits == 0 then None else if nat_le bits 128 then Some (Served bits) else Some LeftOut
 
+-- a width in bits
+abbrev pub width_of : Data → Option (Part ℕ)
+width_of d = natural_of d >>= width_in
+
 -- a width by its text, which must be `*` and is left out, or else by its number
 abbrev pub width_by : Option (List ℕ) → Option ℕ → Option (Part ℕ)
 width_by (Some text) number = if bytes_eq text (codes "*") then Some LeftOut else None
 width_by None number = number >>= width_in
 
--- a width in bits, or `*` of a varbit
-abbrev pub width_of : Data → Option (Part ℕ)
-width_of d = width_by (as_str d) (natural_of d)
+-- the width of a field in a header type: in bits, or `*` of a varbit
+abbrev pub field_width_of : Data → Option FieldWidth
+field_width_of d = width_by (as_str d) (natural_of d) >>= λ width. Some (record { width = width })

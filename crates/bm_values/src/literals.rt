@@ -2,9 +2,9 @@
 ghost use Rattle.std.specs.Prelude.{◌≡◌, ◌<◌, ◌≤◌, length, IfSome};
 ghost use Rattle.serde_json.specs.View.{view};
 ghost use Rattle.json_shapes.specs.Shapes.{Reads};
-ghost use Rattle.bm_values.specs.Literals.{hex_digit, hex_number, are_hex_digits, hex_literal, literal_text, literal_of, width_in, width_of};
+ghost use Rattle.bm_values.specs.Literals.{hex_digit, hex_number, are_hex_digits, hex_literal, literal_text, literal_of, width_in, width_of, field_width_of};
 
-use crate::raw::{Part, RawLiteral, RawWidth};
+use crate::raw::{FieldWidth, Part, RawLiteral, RawWidth};
 use json_shapes::ShapeError;
 use json_shapes::shapes::FromJson;
 use serde_json::Value;
@@ -100,13 +100,6 @@ impl FromJson for RawWidth {
     ghost shape = { width_of };
 
     fn from_json(_alloc: Global, value: &Value) -> Result<RawWidth, ShapeError> {
-        if let Some(text) = value.as_str() {
-            return if text == "*" {
-                Ok(Part::LeftOut)
-            } else {
-                Err(ShapeError::Shape)
-            };
-        }
         let Some(bits) = value.as_u64() else {
             return Err(ShapeError::Shape);
         };
@@ -114,5 +107,23 @@ impl FromJson for RawWidth {
             Some(width) => Ok(width),
             None => Err(ShapeError::Shape),
         }
+    }
+}
+
+impl FromJson for FieldWidth {
+    ghost shape = { field_width_of };
+
+    fn from_json(alloc: Global, value: &Value) -> Result<FieldWidth, ShapeError> {
+        if let Some(text) = value.as_str() {
+            return if text == "*" {
+                Ok(FieldWidth {
+                    width: Part::LeftOut,
+                })
+            } else {
+                Err(ShapeError::Shape)
+            };
+        }
+        let width = RawWidth::from_json(alloc, value)?;
+        Ok(FieldWidth { width })
     }
 }

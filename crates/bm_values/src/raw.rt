@@ -9,8 +9,14 @@ pub enum Part<T> {
     LeftOut,
 }
 
-/// A width in bits, 1 to 128; a varbit, a signed field and a greater width are left out.
+/// A width in bits, 1 to 128; a greater width is left out.
 pub type RawWidth = Part<u32>;
+
+/// The width of a field in a header type; that of a varbit is left out too.
+#[derive(Drop)]
+pub struct FieldWidth {
+    pub width: RawWidth,
+}
 
 /// A literal of at most 128 bits; a longer one is left out.
 pub type RawLiteral = Part<u128>;

@@ -9,7 +9,7 @@ use Rattle.p4info_model.specs.declared.valid.InfoError.TheVariants.{Fault}
 use Rattle.p4info_model.specs.Flaw.{flaw}
 use Rattle.p4info_model.specs.Objects.{ids_clash, names_clash}
 use Rattle.p4info_model.specs.Resolved.{info_of}
-use Rattle.switch_spec.specs.Bridge.{bridge_info}
+use Rattle.plane_spec.specs.Bridge.{bridge_info}
 use Rattle.bridge_program.specs.BridgeInfo.{bridge_message}
 
 no_flaw : flaw bridge_message ≡ None

@@ -3,7 +3,7 @@ use Rattle.std.specs.Prelude.{pos, false, [], ◌∷◌, codes, Some}
 use Rattle.p4_types.specs.declared.p4info.Action.{Action}
 use Rattle.p4_types.specs.declared.p4info.P4Info.{P4Info}
 use Rattle.p4_types.specs.declared.p4info.Table.{Table}
-use Rattle.switch_spec.specs.Bridge.{bridge_table, forward_action, drop_action, named}
+use Rattle.plane_spec.specs.Bridge.{bridge_table, forward_action, drop_action, named}
 
 -- the bridge's action that sends a frame to a port, its one parameter of 9 bits
 abbrev pub forward_message : Action

@@ -1,7 +1,8 @@
-//! The built-in Ethernet bridge: its P4Info, and what becomes of a frame that misses.
+//! The configuration of the built-in Ethernet bridge: its P4Info, and what becomes of a frame that misses.
 #![tactic(auto)]
 
+mod configuration;
 pub mod laws;
 mod objects;
 
-pub use objects::{defaults, info, info_bytes};
+pub use configuration::config;

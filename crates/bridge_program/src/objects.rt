@@ -1,26 +1,25 @@
-//! The bridge's P4Info and its default action.
+//! The bridge's P4Info.
 ghost use Rattle.std.specs.Prelude.{◌≡◌, ◌∷◌, [], IfOk, Some};
-ghost use Rattle.switch_spec.specs.Bridge.{named, bridge_info, bridge_defaults};
-ghost use Rattle.bridge_program.specs.Spelled.{canonical_info};
+ghost use Rattle.plane_spec.specs.Bridge.{named, bridge_info};
 ghost use Rattle.bridge_program.specs.BridgeInfo.{forward_message, drop_message, table_message, bridge_message};
 
-use list_types::{ByteList, List, NoMemory, Text};
+use list_types::{List, NoMemory, Text};
 use p4_types::p4info;
 use p4_types::p4info::{Action, ActionRef, MatchField, Param, Preamble, Table};
-use p4_types::table::{ActionCall, DefaultAction};
-use p4info_model::{InfoError, P4Info, write_info};
+use p4info_model::{InfoError, P4Info};
 use std::alloc::Global;
 
-const TABLE: u32 = 0x0200_0001;
+pub(crate) const TABLE: u32 = 0x0200_0001;
 
 const FORWARD: u32 = 0x0100_0001;
 
-const DROP: u32 = 0x0100_0002;
+pub(crate) const DROP: u32 = 0x0100_0002;
 
 // The number of the exact match type.
 const EXACT: i32 = 2;
 
-fn only<T>(alloc: Global, item: T) -> Result<List<T>, NoMemory>
+/// A list of one item.
+pub(crate) fn only<T>(alloc: Global, item: T) -> Result<List<T>, NoMemory>
 where
     T: Drop,
     ensures { IfOk result (λ list. list ≡ item ∷ []) }
@@ -145,7 +144,7 @@ fn message(alloc: Global) -> Result<p4info::P4Info, NoMemory>
 }
 
 /// The bridge's objects.
-pub fn info(alloc: Global) -> Result<P4Info, NoMemory>
+pub(crate) fn info(alloc: Global) -> Result<P4Info, NoMemory>
     ensures { IfOk result (λ info. info ≡ bridge_info) }
 {
     match P4Info::of(alloc, message(alloc)?) {
@@ -153,28 +152,4 @@ pub fn info(alloc: Global) -> Result<P4Info, NoMemory>
         Err(InfoError::NoMemory) => Err(NoMemory),
         Err(InfoError::Fault(_)) => unreachable!(),
     }
-}
-
-/// The bridge's own default action: a frame to an address that is not in the table is dropped.
-pub fn defaults(alloc: Global) -> Result<List<DefaultAction>, NoMemory>
-    ensures { IfOk result (λ defaults. defaults ≡ bridge_defaults) }
-{
-    only(
-        alloc,
-        DefaultAction {
-            table: TABLE,
-            action: ActionCall {
-                action: DROP,
-                arguments: List::new(alloc),
-            },
-        },
-    )
-}
-
-/// The canonical bytes of the bridge's P4Info.
-pub fn info_bytes(alloc: Global) -> Result<ByteList, NoMemory>
-    ensures { IfOk result (λ bytes. bytes ≡ canonical_info bridge_info) }
-{
-    let info = info(alloc)?;
-    write_info(alloc, &info)
 }

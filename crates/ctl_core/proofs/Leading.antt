@@ -1,24 +1,15 @@
--- The events of a Write lead to what its updates wrote.
-use Rattle.std.proofs.Common.{◌≡◌, ℕ, Bool, true, false, cond, List, [], ◌∷◌, map, fold, Option, None, Result, Ok, Err, if◌then◌else◌, refl, ap, ◌∙◌, sym, subst}
+-- The events of a call lead to what it changed.
+use Rattle.std.proofs.Common.{◌≡◌, ℕ, Bool, true, false, cond, List, [], ◌∷◌, map, fold, Result, Ok, Err, if◌then◌else◌, refl, ap, ◌∙◌, sym, subst}
 use Rattle.std.specs.List.{filter_map}
 use Rattle.std.specs.Result.{result_ok}
 use Rattle.p4_types.specs.declared.code.Cause.{Cause}
-use Rattle.p4_types.specs.declared.events.Event.{Event}
 use Rattle.p4_types.specs.declared.events.Event.TheVariants as events
 use Rattle.p4_types.specs.declared.events.Origin.{Origin}
 use Rattle.p4_types.specs.declared.table.Change.{Change}
-use Rattle.ctl_core.specs.declared.prepared.Effect.TheVariants as effects
-use Rattle.control_state.specs.declared.fixed.Fixed.{Fixed}
-use Rattle.control_state.specs.declared.state.State.{State}
-use Rattle.p4_types.specs.declared.messages.MasterArbitrationUpdate.{MasterArbitrationUpdate}
-use Rattle.role_arbiter.specs.Arbitration.{cause, asked, arbitrated, settled, left}
-use Rattle.role_arbiter.specs.State.{RolesState}
-use Rattle.role_arbiter.proofs.Settling.{takes_effect}
+use Rattle.plane_spec.specs.Config.{Event}
+use Rattle.plane_spec.specs.Planes.{Control, change_applied, applied}
 use Rattle.switch_spec.specs.Answer.{state_after, has_failed, batch, continued, all_or_nothing}
-use Rattle.switch_spec.specs.Control.{Control, change_applied, applied, session_by, with_roles}
-use Rattle.ctl_core.specs.Prepared.{Leads, effect_unless}
-use Rattle.control_state.specs.State.{Drafted, control_of}
-use Rattle.control_state.specs.Whole.{control_in}
+use Rattle.ctl_core.specs.Prepared.{Made}
 
 -- the changes of the outcomes, in turn
 changes_applied : (list : List (Result Change Cause)) (c : Control) → fold state_after c list ≡ fold change_applied c (filter_map result_ok list)
@@ -34,54 +25,32 @@ batch_applied : (by : Origin) (list : List Change) (c : Control) → applied c (
 batch_applied by [] c = refl
 batch_applied by (change ∷ list) c = refl
 
--- there are no events, or they lead to what was written
-leads_by : (made : List Event) (s : State) (d : Drafted) → control_of s.fixed d.written s.roles ≡ applied (control_of s.fixed d.before s.roles) made → Leads s made (effect_unless made d)
-leads_by [] s d is = refl
-leads_by (event ∷ made) s d is = is
+-- there are no events, or they lead to what was changed
+made_by : (list : List Event) (c d : Control) → d ≡ applied c list → Made c d list
+made_by [] c d is = tt
+made_by (event ∷ list) c d is = is
 
 -- where a batch fails there are none
-atomic_leads : (b : Bool) (by : Origin) (list : List (Result Change Cause)) (s : State) (d : Drafted) → control_of s.fixed d.written s.roles ≡ fold state_after (control_of s.fixed d.before s.roles) list
-    → let made : List Event = cond b [] (batch by (filter_map result_ok list)) in Leads s made (effect_unless made d)
-atomic_leads true by list s d h = refl
-atomic_leads false by list s d h =
-    let c = control_of s.fixed d.before s.roles in
-    leads_by (batch by (filter_map result_ok list)) s d (h ∙ changes_applied list c ∙ sym (batch_applied by (filter_map result_ok list) c))
+atomic_made : (b : Bool) (by : Origin) (list : List (Result Change Cause)) (c d : Control) → d ≡ fold state_after c list → Made c d (cond b [] (batch by (filter_map result_ok list)))
+atomic_made true by list c d h = tt
+atomic_made false by list c d h = made_by (batch by (filter_map result_ok list)) c d (h ∙ changes_applied list c ∙ sym (batch_applied by (filter_map result_ok list) c))
 
-continued_leads : (by : Origin) (list : List (Result Change Cause)) (s : State) (d : Drafted) → control_of s.fixed d.written s.roles ≡ fold state_after (control_of s.fixed d.before s.roles) list
-    → let made : List Event = map (events.Change by) (filter_map result_ok list) in Leads s made (effect_unless made d)
-continued_leads by list s d h =
-    let c = control_of s.fixed d.before s.roles in
-    leads_by (map (events.Change by) (filter_map result_ok list)) s d (h ∙ changes_applied list c ∙ sym (each_applied by (filter_map result_ok list) c))
+continued_made : (by : Origin) (list : List (Result Change Cause)) (c d : Control) → d ≡ fold state_after c list → Made c d (map (events.Change by) (filter_map result_ok list))
+continued_made by list c d h = made_by (map (events.Change by) (filter_map result_ok list)) c d (h ∙ changes_applied list c ∙ sym (each_applied by (filter_map result_ok list) c))
 
-either_leads : (b : Bool) (by : Origin) (list : List (Result Change Cause)) (s : State) (d : Drafted) → control_of s.fixed d.written s.roles ≡ fold state_after (control_of s.fixed d.before s.roles) list
-    → let made : List Event = (if b then all_or_nothing by list else continued by list).events in Leads s made (effect_unless made d)
-either_leads true by list s d h = atomic_leads (has_failed list) by list s d h
-either_leads false by list s d h = continued_leads by list s d h
+either_made : (b : Bool) (by : Origin) (list : List (Result Change Cause)) (c d : Control) → d ≡ fold state_after c list → Made c d (if b then all_or_nothing by list else continued by list).events
+either_made true by list c d h = atomic_made (has_failed list) by list c d h
+either_made false by list c d h = continued_made by list c d h
 
--- the events of a Write lead to what its updates wrote, or there are none
-pub write_leads : (atomic : Bool) (by : Origin) (list : List (Result Change Cause)) (s : State) (d : Drafted) (made : List Event)
-    → made ≡ (if atomic then all_or_nothing by list else continued by list).events → control_of s.fixed d.written s.roles ≡ fold state_after (control_of s.fixed d.before s.roles) list
-    → Leads s made (effect_unless made d)
-write_leads atomic by list s d made is h =
-    let P : List Event → Type 0 = λ m. Leads s m (effect_unless m d) in subst P (sym is) (either_leads atomic by list s d h)
+-- what the updates of a Write changed are its events, or it has none
+pub write_made : (atomic : Bool) (by : Origin) (list : List (Result Change Cause)) (c d : Control) (made : List Event) → made ≡ (if atomic then all_or_nothing by list else continued by list).events → d ≡ fold state_after c list → Made c d made
+write_made atomic by list c d made is h = subst (λ (m : List Event). Made c d m) (sym is) (either_made atomic by list c d h)
 
--- the same where fixed, roles and what is written were read elsewhere
-pub drafted : (s : State) (fixed : Fixed) (roles : RolesState) (old new : Drafted) (list : List (Result Change Cause)) → s.fixed ≡ fixed → s.roles ≡ roles → old.written ≡ old.before → new.before ≡ old.before
-    → control_of fixed new.written roles ≡ fold state_after (control_of fixed old.written roles) list → control_of s.fixed new.written s.roles ≡ fold state_after (control_of s.fixed new.before s.roles) list
-drafted s fixed roles old new list fixed_is roles_are same before after =
-    ap (λ f. control_of f new.written s.roles) fixed_is
-    ∙ ap (λ r. control_of fixed new.written r) roles_are
-    ∙ after
-    ∙ ap (λ w. fold state_after (control_of fixed w roles) list) (same ∙ sym before)
-    ∙ ap (λ r. fold state_after (control_of fixed new.before r) list) (sym roles_are)
-    ∙ ap (λ f. fold state_after (control_of f new.before s.roles) list) (sym fixed_is)
+-- what is made is applied, where there are events
+pub made_applied : (list : List Event) (c d : Control) → Made c d list → (list ≡ [] → ⊥) → d ≡ applied c list
+made_applied [] c d made some = absurd (some refl)
+made_applied (event ∷ list) c d made some = made
 
--- the event of an arbitration that breaks no rule leads to the roles with its session
-pub arbitration_leads : (s : State) (by : Origin) (update : MasterArbitrationUpdate) (config : Option (List ℕ)) (roles : RolesState) → cause s.roles by.caller update ≡ None
-    → asked by.caller update ≡ session_by by config → roles ≡ arbitrated s.roles (asked by.caller update) → Leads s (events.Arbitrate by config ∷ []) (effects.Roles roles)
-arbitration_leads s by update config roles accepted asks is =
-    ap (with_roles (control_in s)) (is ∙ sym (takes_effect s.roles by.caller update accepted) ∙ ap (λ new. settled s.roles new) asks)
-
--- the event of a stream's end leads to the roles without its session
-pub leave_leads : (s : State) (lane k : ℕ) (roles : RolesState) → roles ≡ left s.roles lane → Leads s (events.Leave lane k ∷ []) (effects.Roles roles)
-leave_leads s lane k roles is = ap (with_roles (control_in s)) is
+-- the same from another state that is equal
+pub made_before : (b c d : Control) (list : List Event) → b ≡ c → Made c d list → Made b d list
+made_before b c d list is made = subst (λ (x : Control). Made x d list) (sym is) made

@@ -1,10 +1,11 @@
 -- The control of the switch with its counts, and what a call makes of it.
-use Rattle.std.specs.Prelude.{◌≡◌, ℕ, ◌+◌, Bool, true, false, List, [], ◌++◌, length, None}
+use Rattle.std.specs.Prelude.{◌≡◌, ℕ, ◌+◌, ◌-◌, ◌^◌, min, Bool, true, false, List, [], ◌++◌, length, None}
 use Rattle.p4_types.specs.declared.calls.Reply.{Reply}
 use Rattle.p4_types.specs.declared.code.Code.TheVariants as codes
-use Rattle.p4_types.specs.declared.events.Event.{Event}
+use Rattle.plane_image.specs.Image.{ImageVersions}
+use Rattle.plane_spec.specs.Config.{Event}
+use Rattle.plane_spec.specs.Planes.{Control, applied}
 use Rattle.switch_spec.specs.Answer.{Answer}
-use Rattle.switch_spec.specs.Control.{Control, applied}
 use Rattle.switch_spec.specs.History.{is_unavailable}
 
 -- the control state, with how many steps and calls there were
@@ -15,9 +16,18 @@ pub record Core : Type 0 where
   -- how many calls each caller has made
   pub calls : List ℕ
 
+-- nothing can be undone, and the list of events goes on
+pub record IsSettled (i : ImageVersions) : Type 0 where
+  pub settled : i.before ≡ i.now
+  pub alive : i.now.closed ≡ false
+
+-- a count with so many more, which stands still at 2^64 - 1
+abbrev pub raised : ℕ → ℕ → ℕ
+raised count more = min (count + more) (2 ^ 64 - 1)
+
 -- the reply of an answer after n steps; each event of an answer is a step
 abbrev pub replied : ℕ → Answer → Reply
-replied n a = record { code = a.code; messages = a.messages; notices = a.notices; steps = n + length a.events; packet = a.packet }
+replied n a = record { code = a.code; messages = a.messages; notices = a.notices; steps = raised n (length a.events); packet = a.packet }
 
 -- the reply of a call for which there was no memory
 abbrev pub without_memory : ℕ → Reply

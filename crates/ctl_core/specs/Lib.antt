@@ -1,4 +1,3 @@
 pub mod Core
 pub mod Messages
-pub mod Packets
 pub mod Prepared

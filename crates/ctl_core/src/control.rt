@@ -1,47 +1,40 @@
 //! The control of the switch: calls are answered, one after another.
-ghost use Rattle.std.specs.Prelude.{◌≡◌, ◌<◌, ◌≤◌, ◌+◌, ◌-◌, ◌^◌, false, length, IfOk, replicate, slice_index, set};
-ghost use Rattle.std.specs.Prelude as spec;
-ghost use Rattle.p4_types.specs.declared.events.Event.{Event};
-ghost use Rattle.switch_spec.specs.Answer.{answer_to};
-ghost use Rattle.switch_spec.specs.Control.{opened, applied, Legal};
+ghost use Rattle.std.specs.Prelude.{◌≡◌, ◌<◌, ◌++◌, false, OnOk, OnErr, IfOk, replicate, slice_index, set};
+ghost use Rattle.plane_spec.specs.Legal.{Legal};
+ghost use Rattle.plane_spec.specs.Planes.{opened, applied};
+ghost use Rattle.switch_spec.specs.Answer.{answer_to, no_figures};
 ghost use Rattle.switch_spec.specs.History.{is_unavailable};
-ghost use Rattle.ctl_core.specs.Prepared.{Leads, answer_of, control_before};
-ghost use Rattle.control_state.specs.State.{program_of};
-ghost use Rattle.control_state.specs.Whole.{control_in};
-ghost use Rattle.switch_spec.specs.Meaning.{meaning};
-ghost use Rattle.ctl_core.specs.Core.{Handled, replied, without_memory};
-ghost use Rattle.ctl_core.specs.Packets.{verdict_of};
+ghost use Rattle.ctl_core.specs.Core.{Handled, IsSettled, without_memory, raised};
+ghost use Rattle.ctl_core.specs.Prepared.{answer_of};
 
-use crate::packets::Verdict;
-use crate::prepared::{Effect, Prepared};
+use crate::calls;
+use crate::prepared::Prepared;
 use crate::press::Press;
-use crate::{calls, packets};
-use control_state::{Fixed, Program, State, Written};
 use list_types::{List, NoMemory};
 use p4_types::calls::{Call, Reply};
 use p4_types::code::Code;
-use p4_types::events::Start;
-use p4_types::messages::Uint128;
-use role_arbiter::{Roles, Session};
+use p4_types::events::{Event, Start};
+use plane_image::Image;
+use plane_state::Config;
 use std::alloc::Global;
 use std::marker::Model;
 
 /// The control of the switch. A contract sees its control state, how many steps there were, and how many
-/// calls each caller has made.
+/// calls each caller has made. Both counts stand still at 2^64 - 1.
 #[derive(Drop)]
 pub struct Control {
-    state: State,
-    steps: u64,
-    calls: [u32; 32],
+    image: Image,
+    calls: [u64; 32],
 }
 
 impl Model for Control {
-    ghost use Rattle.ctl_core.specs.Core.{Core};
-    ghost use Rattle.control_state.specs.Whole.{control_in};
+    ghost use Rattle.ctl_core.specs.Core.{Core, IsSettled};
 
     ghost Value = { Core };
 
-    ghost view = { λ c. record { control = control_in c.state; steps = c.steps; calls = c.calls } };
+    ghost view = { λ c. record { control = c.image.now; steps = c.image.steps; calls = c.calls } };
+
+    ghost invariant = { λ c. IsSettled c.image };
 }
 
 // The reply to a call for which there was no memory.
@@ -57,106 +50,82 @@ fn without_memory(alloc: Global, steps: u64) -> Reply
     }
 }
 
-// Makes an effect part of the state.
-fn take(state: &mut State, effect: Effect)
-    ensures { (list : spec.List Event) → Leads state.old list effect → control_in state.new ≡ applied (control_before state.old effect) list }
+// Undoes what a call changed for which there is no memory.
+fn refused(alloc: Global, image: &mut Image) -> Reply
+    ensures reply { result ≡ without_memory image.old.steps }
+    ensures now { image.new.now ≡ image.old.before }
+    ensures before { image.new.before ≡ image.old.before }
+    ensures steps { image.new.steps ≡ image.old.steps }
 {
-    match effect {
-        Effect::Nothing => {}
-        Effect::Written(draft) => state.written = draft.keep(),
-        Effect::Roles(roles) => state.roles = roles,
+    image.undo();
+    without_memory(alloc, image.steps())
+}
+
+// Hands events on, if there are any.
+fn hand_on<P: Press>(press: &mut P, events: List<Event<Config>>) -> Result<(), NoMemory>
+    requires { Legal (applied (P.opening press.old) (P.given press.old)) events }
+    ensures opening { P.opening press.new ≡ P.opening press.old }
+    ensures added { OnOk result (P.given press.new ≡ P.given press.old ++ events) }
+    ensures kept { OnErr result (P.given press.new ≡ P.given press.old) }
+{
+    if events.is_empty() {
+        return Ok(());
+    }
+    match press.push(events) {
+        Ok(()) => Ok(()),
+        Err(_) => Err(NoMemory),
     }
 }
 
-// Drops an effect, and undoes what it wrote.
-fn give_back(state: &mut State, effect: Effect)
-    ensures { control_in state.new ≡ control_before state.old effect }
-{
-    if let Effect::Written(draft) = effect {
-        state.written = draft.undo();
-    }
-}
-
-// Hands the events of an answer on, and makes it take effect.
-fn complete<P: Press>(
-    alloc: Global,
-    state: &mut State,
-    steps: u64,
-    prepared: Prepared,
-    press: &mut P,
-) -> Reply
-    requires steps { steps < 2 ^ 63 }
-    requires few { length prepared.events ≤ 4096 }
+// Hands the events of an answer on, and keeps what they changed.
+fn complete<P: Press>(alloc: Global, image: &mut Image, prepared: Prepared, press: &mut P) -> Reply
     requires available { is_unavailable prepared.code ≡ false }
-    requires state { P.state press.old ≡ control_before state.old prepared.effect }
-    requires may { Legal (control_before state.old prepared.effect) prepared.events }
-    requires leads { Leads state.old prepared.events prepared.effect }
-    ensures handled { Handled (control_before state.old prepared.effect) steps (P.given press.old) (answer_of prepared) result (control_in state.new) (P.given press.new) }
-    ensures state { P.state press.new ≡ control_in state.new }
+    requires made { image.old.now ≡ applied image.old.before prepared.events }
+    requires may { Legal image.old.before prepared.events }
+    requires alive { (applied image.old.before prepared.events).closed ≡ false }
+    requires alive_before { image.old.before.closed ≡ false }
+    requires state { applied (P.opening press.old) (P.given press.old) ≡ image.old.before }
+    ensures handled { Handled image.old.before image.old.steps (P.given press.old) (answer_of prepared) result image.new.now (P.given press.new) }
+    ensures steps { result.steps ≡ image.new.steps }
+    ensures settled { IsSettled image.new }
+    ensures opening { P.opening press.new ≡ P.opening press.old }
 {
-    let steps_after = steps + prepared.events.len() as u64;
-    match press.push(prepared.events) {
-        Err(_) => {
-            give_back(state, prepared.effect);
-            without_memory(alloc, steps)
-        }
+    let count = prepared.events.len() as u64;
+    match hand_on(press, prepared.events) {
+        Err(NoMemory) => refused(alloc, image),
         Ok(()) => {
-            take(state, prepared.effect);
+            image.keep(count);
             Reply {
                 code: prepared.code,
                 messages: prepared.messages,
                 notices: prepared.notices,
-                steps: steps_after,
+                steps: image.steps(),
                 packet: None,
             }
         }
     }
 }
 
-fn program(alloc: Global, start: &Start) -> Result<Option<Program>, NoMemory>
-    ensures { IfOk result (λ p. p ≡ program_of start.now) }
+// Answers a call, and hands its events on.
+fn respond<P: Press>(
+    alloc: Global,
+    image: &mut Image,
+    caller: u16,
+    number: u64,
+    call: &Call,
+    press: &mut P,
+) -> Reply
+    requires settled { IsSettled image.old }
+    requires state { applied (P.opening press.old) (P.given press.old) ≡ image.old.now }
+    ensures handled { Handled image.old.now image.old.steps (P.given press.old) (answer_to image.old.now no_figures caller number call.now) result image.new.now (P.given press.new) }
+    ensures steps { result.steps ≡ image.new.steps }
+    ensures settled { IsSettled image.new }
+    ensures opening { P.opening press.new ≡ P.opening press.old }
 {
-    if !start.bridge {
-        return Ok(None);
+    match calls::prepare(alloc, image, caller, number, call) {
+        Ok(prepared) => complete(alloc, image, prepared, press),
+        Err(NoMemory) => refused(alloc, image),
     }
-    let info = bridge_program::info(alloc)?;
-    Ok(Some(Program {
-        info,
-        defaults: bridge_program::defaults(alloc)?,
-    }))
-}
-
-// With the bridge, controller 0 starts as the primary of role 0.
-fn roles(alloc: Global, start: &Start) -> Result<Roles, NoMemory>
-    ensures { IfOk result (λ roles. roles ≡ (opened start.now).roles) }
-{
-    let mut roles = Roles::open(alloc)?;
-    if start.bridge {
-        roles.enter(Session {
-            caller: 0,
-            role: 0,
-            election_id: Uint128 { high: 0, low: 1 },
-            config: None,
-        });
-    }
-    Ok(roles)
-}
-
-fn state(alloc: Global, start: &Start) -> Result<State, NoMemory>
-    ensures { IfOk result (λ state. control_in state ≡ opened start.now) }
-{
-    let program = program(alloc, start)?;
-    let roles = roles(alloc, start)?;
-    Ok(State {
-        fixed: Fixed {
-            device: start.device,
-            cpu: start.cpu,
-            rows: start.rows,
-            program,
-        },
-        written: Written::open(alloc),
-        roles,
-    })
 }
 
 impl Control {
@@ -166,9 +135,9 @@ impl Control {
         ensures steps { IfOk result (λ c. c.steps ≡ 0) }
         ensures calls { IfOk result (λ c. c.calls ≡ replicate 32 0) }
     {
+        let image = Image::open(alloc, start)?;
         Ok(Control {
-            state: state(alloc, start)?,
-            steps: 0,
+            image,
             calls: [0; 32],
         })
     }
@@ -183,57 +152,42 @@ impl Control {
         press: &mut P,
     ) -> Reply
         requires caller { caller < 32 }
-        requires calls { slice_index self.old.calls caller < 2 ^ 32 - 1 }
-        requires steps { self.old.steps < 2 ^ 63 }
-        requires state { P.state press.old ≡ self.old.control }
-        ensures handled { Handled self.old.control self.old.steps (P.given press.old) (answer_to self.old.control caller (slice_index self.old.calls caller + 1) call.now) result self.new.control (P.given press.new) }
-        ensures steps { self.new.steps ≡ result.steps }
-        ensures counted { self.new.calls ≡ set self.old.calls caller (slice_index self.old.calls caller + 1) }
-        ensures state { P.state press.new ≡ self.new.control }
+        requires state { applied (P.opening press.old) (P.given press.old) ≡ self.old.control }
+        ensures handled { Handled self.old.control self.old.steps (P.given press.old) (answer_to self.old.control no_figures caller (raised (slice_index self.old.calls caller) 1) call.now) result self.new.control (P.given press.new) }
+        ensures steps { result.steps ≡ self.new.steps }
+        ensures counted { self.new.calls ≡ set self.old.calls caller (raised (slice_index self.old.calls caller) 1) }
+        ensures opening { P.opening press.new ≡ P.opening press.old }
     {
-        let number = self.calls[caller as usize] + 1;
+        let number = self.calls[caller as usize].saturating_add(1);
         self.calls[caller as usize] = number;
-        let prepared = calls::prepare(alloc, &mut self.state, caller, number, call);
-        let reply = match prepared {
-            Ok(prepared) => complete(alloc, &mut self.state, self.steps, prepared, press),
-            Err(NoMemory) => without_memory(alloc, self.steps),
-        };
-        self.steps = reply.steps;
-        reply
+        respond(alloc, &mut self.image, caller, number, call, press)
     }
 
     /// Answers UNAVAILABLE to a caller whose call could not be read for want of memory.
     pub fn decline(&mut self, alloc: Global, caller: u16) -> Reply
         requires caller { caller < 32 }
-        requires calls { slice_index self.old.calls caller < 2 ^ 32 - 1 }
         ensures refused { result ≡ without_memory self.old.steps }
         ensures control { self.new.control ≡ self.old.control }
         ensures steps { self.new.steps ≡ self.old.steps }
-        ensures counted { self.new.calls ≡ set self.old.calls caller (slice_index self.old.calls caller + 1) }
+        ensures counted { self.new.calls ≡ set self.old.calls caller (raised (slice_index self.old.calls caller) 1) }
     {
-        self.calls[caller as usize] += 1;
-        without_memory(alloc, self.steps)
+        self.calls[caller as usize] = self.calls[caller as usize].saturating_add(1);
+        without_memory(alloc, self.image.steps())
     }
 
     /// How many calls a caller has made.
-    pub fn calls_of(&self, caller: u16) -> u32
+    pub fn calls_of(&self, caller: u16) -> u64
         requires { caller < 32 }
         ensures { result ≡ slice_index self.now.calls caller }
     {
         self.calls[caller as usize]
     }
 
-    /// How many steps there were.
-    pub fn steps(&self) -> u64
-        ensures { result ≡ self.now.steps }
+    /// The control state.
+    pub fn image(&self) -> &Image
+        ensures control { result.now.now ≡ self.now.control }
+        ensures steps { result.now.steps ≡ self.now.steps }
     {
-        self.steps
-    }
-
-    /// What becomes of a packet that enters at a port.
-    pub fn carry(&self, alloc: Global, port: u16, packet: &[u8]) -> Result<Verdict, NoMemory>
-        ensures { IfOk result (λ v. verdict_of v ≡ meaning self.now.control port packet.now) }
-    {
-        packets::carry(alloc, &self.state, port, packet)
+        &self.image
     }
 }

@@ -1,16 +1,14 @@
-//! The control of the switch: its state, and the answers to calls.
+//! The control of the switch: the answer to each call, and what it makes of the control state.
 #![tactic(auto)]
 
 mod calls;
 mod control;
 mod lists;
 mod messages;
-mod packets;
 mod prepared;
 mod press;
 mod stream;
 mod writes;
 
 pub use control::Control;
-pub use packets::Verdict;
 pub use press::Press;

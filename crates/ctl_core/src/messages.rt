@@ -1,16 +1,16 @@
 //! The messages of replies.
-ghost use Rattle.std.specs.Prelude.{◌≡◌, [], ◌∷◌, ◌++◌, map, IfOk, OnOk};
-ghost use Rattle.wire_fields.specs.Spelling.{field_bytes, bytes_field, spelling};
+ghost use Rattle.std.specs.Prelude.{◌≡◌, [], ◌∷◌, map, codes, IfOk};
 ghost use Rattle.switch_spec.specs.Answer.{own_error, batch_errors};
 ghost use Rattle.ctl_core.specs.Messages.{batch_error};
-ghost use Rattle.switch_spec.specs.Status.{status_bytes, error_bytes, aborted_bytes, value_fields, detail_bytes, write_status, capabilities_bytes};
+ghost use Rattle.switch_spec.specs.Status.{status_of, status_bytes, no_error, error_of, aborted_error, detail_of, write_status, capabilities_bytes};
 
 use crate::lists::only;
-use list_types::{ByteList, List, NoMemory};
+use list_types::{ByteList, List, NoMemory, Text};
 use p4_types::code::{Cause, Code};
+use p4_types::messages::{Any, CapabilitiesResponse, Error, Status};
 use p4_types::table::Change;
+use p4v1_wire::write_message;
 use std::alloc::Global;
-use wire_fields::Writer;
 
 const ERROR_URL: &str = "type.googleapis.com/p4.v1.Error";
 
@@ -18,66 +18,89 @@ const SPACE: &str = "p4switch";
 
 const VERSION: &str = "1.3.0";
 
-#[tactic(auto, unfolding(switch_spec::specs::Status::status_bytes))]
-fn status(alloc: Global, code: Code) -> Result<Vec<u8>, NoMemory>
-    ensures { IfOk result (λ bytes. bytes.items ≡ status_bytes code) }
+/// The empty text, which takes no memory.
+pub(crate) fn empty_text(alloc: Global) -> Text
+    ensures { result ≡ [] }
 {
-    let mut writer = Writer::new(alloc);
-    writer.varint(1, u64::from(code.number()))?;
-    Ok(writer.finish())
+    Text::from_string(String::new(alloc))
 }
 
-#[tactic(auto, unfolding(switch_spec::specs::Status::error_bytes))]
-fn error(alloc: Global, cause: Cause) -> Result<Vec<u8>, NoMemory>
-    ensures { IfOk result (λ bytes. bytes.items ≡ error_bytes cause) }
+fn text(alloc: Global, words: &str) -> Result<Text, NoMemory>
+    ensures { IfOk result (λ text. text ≡ words.now) }
 {
-    let mut writer = Writer::new(alloc);
-    writer.varint(1, u64::from(cause.code.number()))?;
-    writer.bytes(3, SPACE.as_bytes())?;
-    writer.varint(4, u64::from(cause.rule))?;
-    Ok(writer.finish())
+    let mut text = String::new(alloc);
+    text.push_str(words)?;
+    Ok(Text::from_string(text))
 }
 
-#[tactic(auto, unfolding(switch_spec::specs::Status::aborted_bytes))]
-fn aborted(alloc: Global) -> Result<Vec<u8>, NoMemory>
-    ensures { IfOk result (λ bytes. bytes.items ≡ aborted_bytes) }
+/// The name of this switch in what it tells of errors.
+pub(crate) fn space(alloc: Global) -> Result<Text, NoMemory>
+    ensures { IfOk result (λ text. text ≡ codes "p4switch") }
 {
-    status(alloc, Code::Aborted)
+    text(alloc, SPACE)
 }
 
-fn push_value(writer: &mut Writer, error: &[u8]) -> Result<(), NoMemory>
-    ensures { OnOk result (writer.new ≡ writer.old ++ spelling (value_fields error.now)) }
+// A Status of a code with these details.
+fn status(alloc: Global, code: Code, details: List<Any>) -> Status
+    ensures { result ≡ status_of code details }
 {
-    match error {
-        [] => Ok(()),
-        _ => writer.bytes(2, error),
+    Status {
+        code: i32::from(code.number()),
+        message: empty_text(alloc),
+        details,
     }
 }
 
-#[tactic(auto, unfolding(switch_spec::specs::Status::detail_bytes))]
-fn detail(alloc: Global, error: &[u8]) -> Result<Vec<u8>, NoMemory>
-    ensures { IfOk result (λ bytes. bytes.items ≡ detail_bytes error.now) }
+fn no_error(alloc: Global) -> Error
+    ensures { result ≡ no_error }
 {
-    let mut writer = Writer::new(alloc);
-    writer.bytes(1, ERROR_URL.as_bytes())?;
-    push_value(&mut writer, error)?;
-    Ok(writer.finish())
+    Error {
+        canonical_code: 0,
+        message: empty_text(alloc),
+        space: empty_text(alloc),
+        code: 0,
+        details: List::new(alloc),
+    }
 }
 
-fn push_error(alloc: Global, writer: &mut Writer, error: &[u8]) -> Result<(), NoMemory>
-    ensures { OnOk result (writer.new ≡ writer.old ++ field_bytes (bytes_field 3 (detail_bytes error.now))) }
+fn error_of(alloc: Global, cause: Cause) -> Result<Error, NoMemory>
+    ensures { IfOk result (λ error. error ≡ error_of cause) }
 {
-    let detail = detail(alloc, error)?;
-    writer.bytes(3, detail.as_slice())
+    Ok(Error {
+        canonical_code: i32::from(cause.code.number()),
+        message: empty_text(alloc),
+        space: space(alloc)?,
+        code: i32::from(cause.rule.number()),
+        details: List::new(alloc),
+    })
+}
+
+fn aborted(alloc: Global) -> Error
+    ensures { result ≡ aborted_error }
+{
+    let mut error = no_error(alloc);
+    error.canonical_code = i32::from(Code::Aborted.number());
+    error
+}
+
+#[tactic(auto, unfolding(switch_spec::specs::Status::detail_of))]
+fn detail(alloc: Global, error: &Error) -> Result<Any, NoMemory>
+    ensures { IfOk result (λ detail. detail ≡ detail_of error.now) }
+{
+    let value = write_message(alloc, error)?;
+    Ok(Any {
+        type_url: text(alloc, ERROR_URL)?,
+        value,
+    })
 }
 
 // The Error of an update by itself.
-fn own_error(alloc: Global, outcome: &Result<Change, Cause>) -> Result<Vec<u8>, NoMemory>
-    ensures { IfOk result (λ bytes. bytes.items ≡ own_error outcome.now) }
+fn own_error(alloc: Global, outcome: &Result<Change, Cause>) -> Result<Error, NoMemory>
+    ensures { IfOk result (λ error. error ≡ own_error outcome.now) }
 {
     match outcome {
-        Ok(_) => Ok(Vec::new(alloc)),
-        Err(cause) => error(alloc, *cause),
+        Ok(_) => Ok(no_error(alloc)),
+        Err(cause) => error_of(alloc, *cause),
     }
 }
 
@@ -86,22 +109,37 @@ fn batch_error(
     alloc: Global,
     outcome: &Result<Change, Cause>,
     failed: bool,
-) -> Result<Vec<u8>, NoMemory>
-    ensures { IfOk result (λ bytes. bytes.items ≡ batch_error outcome.now failed) }
+) -> Result<Error, NoMemory>
+    ensures { IfOk result (λ error. error ≡ batch_error outcome.now failed) }
 {
     match outcome {
-        Err(cause) if !failed => error(alloc, *cause),
-        _ => aborted(alloc),
+        Err(cause) if !failed => error_of(alloc, *cause),
+        _ => Ok(aborted(alloc)),
     }
 }
 
-#[tactic(auto, unfolding(switch_spec::specs::Status::write_status))]
-fn writer_of_failed_write(alloc: Global) -> Result<Writer, NoMemory>
-    ensures { IfOk result (λ writer. writer ≡ write_status []) }
+fn own_details(alloc: Global, outcomes: &[Result<Change, Cause>]) -> Result<List<Any>, NoMemory>
+    ensures { IfOk result (λ details. details ≡ map detail_of (map own_error outcomes.now)) }
 {
-    let mut writer = Writer::new(alloc);
-    writer.varint(1, u64::from(Code::Unknown.number()))?;
-    Ok(writer)
+    let mut details = List::new(alloc);
+    for outcome in outcomes {
+        let error = own_error(alloc, outcome)?;
+        details.push(detail(alloc, &error)?)?;
+    }
+    Ok(details)
+}
+
+fn batch_details(alloc: Global, outcomes: &[Result<Change, Cause>]) -> Result<List<Any>, NoMemory>
+    ensures { IfOk result (λ details. details ≡ map detail_of (batch_errors outcomes.now)) }
+{
+    let mut details = List::new(alloc);
+    let mut failed = false;
+    for outcome in outcomes {
+        let error = batch_error(alloc, outcome, failed)?;
+        details.push(detail(alloc, &error)?)?;
+        failed = failed || outcome.is_err();
+    }
+    Ok(details)
 }
 
 /// The Status of a Write of which an update failed, where each is judged by itself.
@@ -112,12 +150,8 @@ pub(crate) fn of_continued(
 ) -> Result<ByteList, NoMemory>
     ensures { IfOk result (λ bytes. bytes ≡ write_status (map own_error outcomes.now)) }
 {
-    let mut writer = writer_of_failed_write(alloc)?;
-    for outcome in outcomes {
-        let error = own_error(alloc, outcome)?;
-        push_error(alloc, &mut writer, error.as_slice())?;
-    }
-    Ok(List::from_vec(writer.finish()))
+    let details = own_details(alloc, outcomes)?;
+    write_message(alloc, &status(alloc, Code::Unknown, details))
 }
 
 /// The Status of a batch of which an update failed.
@@ -128,35 +162,37 @@ pub(crate) fn of_batch(
 ) -> Result<ByteList, NoMemory>
     ensures { IfOk result (λ bytes. bytes ≡ write_status (batch_errors outcomes.now)) }
 {
-    let mut writer = writer_of_failed_write(alloc)?;
-    let mut failed = false;
-    for outcome in outcomes {
-        let error = batch_error(alloc, outcome, failed)?;
-        push_error(alloc, &mut writer, error.as_slice())?;
-        failed = failed || outcome.is_err();
-    }
-    Ok(List::from_vec(writer.finish()))
+    let details = batch_details(alloc, outcomes)?;
+    write_message(alloc, &status(alloc, Code::Unknown, details))
+}
+
+#[tactic(auto, unfolding(switch_spec::specs::Status::status_bytes))]
+fn status_bytes(alloc: Global, code: Code) -> Result<ByteList, NoMemory>
+    ensures { IfOk result (λ bytes. bytes ≡ status_bytes code) }
+{
+    write_message(alloc, &status(alloc, code, List::new(alloc)))
 }
 
 /// The Status of a code alone.
 pub(crate) fn of_code(alloc: Global, code: Code) -> Result<List<ByteList>, NoMemory>
     ensures { IfOk result (λ messages. messages ≡ status_bytes code ∷ []) }
 {
-    only(alloc, List::from_vec(status(alloc, code)?))
+    only(alloc, status_bytes(alloc, code)?)
 }
 
 #[tactic(auto, unfolding(switch_spec::specs::Status::capabilities_bytes))]
-fn version(alloc: Global) -> Result<Vec<u8>, NoMemory>
-    ensures { IfOk result (λ bytes. bytes.items ≡ capabilities_bytes) }
+fn version(alloc: Global) -> Result<ByteList, NoMemory>
+    ensures { IfOk result (λ bytes. bytes ≡ capabilities_bytes) }
 {
-    let mut writer = Writer::new(alloc);
-    writer.bytes(1, VERSION.as_bytes())?;
-    Ok(writer.finish())
+    let response = CapabilitiesResponse {
+        p4runtime_api_version: text(alloc, VERSION)?,
+    };
+    write_message(alloc, &response)
 }
 
 /// The version of the interface.
 pub(crate) fn of_capabilities(alloc: Global) -> Result<List<ByteList>, NoMemory>
     ensures { IfOk result (λ messages. messages ≡ capabilities_bytes ∷ []) }
 {
-    only(alloc, List::from_vec(version(alloc)?))
+    only(alloc, version(alloc)?)
 }

@@ -1,25 +1,26 @@
 //! Where the control of the switch hands its events.
 ghost use Rattle.std.specs.Prelude as spec;
 ghost use Rattle.std.specs.Prelude.{◌≡◌, ◌++◌, OnOk, OnErr, IfErr};
-ghost use Rattle.p4_types.specs.declared.events.Event.{Event};
-ghost use Rattle.switch_spec.specs.Control as switch;
-ghost use Rattle.switch_spec.specs.Control.{applied, Legal};
+ghost use Rattle.plane_spec.specs.Config as config;
+ghost use Rattle.plane_spec.specs.Legal.{Legal};
+ghost use Rattle.plane_spec.specs.Planes as planes;
+ghost use Rattle.plane_spec.specs.Planes.{applied};
 
 use list_types::{List, NoMemory};
 use p4_types::events::Event;
+use plane_state::Config;
 
-/// What takes events. `given` is the list that it was given, and `state` the control state behind it.
+/// What takes events. It is seen as the list that it was given, and the control state before that list.
 pub trait Press {
-    ghost given: { Self → spec.List Event };
+    ghost given: { Self → spec.List config.Event };
 
-    ghost state: { Self → switch.Control };
+    ghost opening: { Self → planes.Control };
 
     /// Adds all of the events, or gives them back where there is no memory.
-    fn push(&mut self, events: List<Event>) -> Result<(), (List<Event>, NoMemory)>
-        requires { Legal (state self.old) events }
+    fn push(&mut self, events: List<Event<Config>>) -> Result<(), (List<Event<Config>>, NoMemory)>
+        requires { Legal (applied (opening self.old) (given self.old)) events }
+        ensures opening { opening self.new ≡ opening self.old }
         ensures added { OnOk result (given self.new ≡ given self.old ++ events) }
-        ensures after { OnOk result (state self.new ≡ applied (state self.old) events) }
         ensures kept { OnErr result (given self.new ≡ given self.old) }
-        ensures before { OnErr result (state self.new ≡ state self.old) }
         ensures given_back { IfErr result (λ refused. refused.0 ≡ events) };
 }

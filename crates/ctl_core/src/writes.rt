@@ -3,32 +3,42 @@ ghost use Rattle.std.specs.Prelude.{◌≡◌, ◌∷◌, [], ◌++◌, IfOk, On
 ghost use Rattle.std.specs.List.{list_any, filter_map};
 ghost use Rattle.std.specs.Result.{result_ok};
 ghost use Rattle.p4_types.specs.declared.events.Event.TheVariants as events;
-ghost use Rattle.switch_spec.specs.Answer.{is_atomicity, is_atomic, has_failed, batch, continued, all_or_nothing};
+ghost use Rattle.switch_spec.specs.Answer.{atomicity_of, is_atomic, has_failed, batch, continued, all_or_nothing};
 ghost use Rattle.ctl_core.specs.Prepared.{IsPrepared};
 
 use crate::lists::only;
 use crate::messages;
-use crate::prepared::{Effect, Prepared};
+use crate::prepared::Prepared;
 use list_types::{ByteList, List, NoMemory};
+use p4_types::calls::Atomicity;
 use p4_types::code::{Cause, Code};
 use p4_types::events::{Event, Origin};
 use p4_types::table::Change;
+use plane_state::Config;
 use std::alloc::Global;
 
 type Outcomes = List<Result<Change, Cause>>;
 
-/// Whether a number is one of the three atomicities.
-pub(crate) fn is_atomicity(atomicity: i32) -> bool
-    ensures { result ≡ is_atomicity atomicity }
+/// An atomicity by its number.
+pub(crate) fn atomicity_of(number: i32) -> Option<Atomicity>
+    ensures { result ≡ atomicity_of number }
 {
-    atomicity >= 0 && atomicity <= 2
+    match number {
+        0 => Some(Atomicity::ContinueOnError),
+        1 => Some(Atomicity::RollbackOnError),
+        2 => Some(Atomicity::DataplaneAtomic),
+        _ => None,
+    }
 }
 
-/// Whether the list takes effect whole or not at all.
-pub(crate) fn is_atomic(atomicity: i32) -> bool
+/// Whether a list takes effect whole or not at all.
+pub(crate) fn is_atomic(atomicity: Option<Atomicity>) -> bool
     ensures { result ≡ is_atomic atomicity }
 {
-    atomicity != 0
+    match atomicity {
+        Some(Atomicity::ContinueOnError) => false,
+        _ => true,
+    }
 }
 
 fn has_failed(outcomes: &[Result<Change, Cause>]) -> bool
@@ -63,7 +73,7 @@ fn push_change(list: &mut List<Change>, outcome: Result<Change, Cause>) -> Resul
 }
 
 // Each change is a step.
-fn steps(alloc: Global, by: Origin, changes: List<Change>) -> Result<List<Event>, NoMemory>
+fn steps(alloc: Global, by: Origin, changes: List<Change>) -> Result<List<Event<Config>>, NoMemory>
     ensures { IfOk result (λ list. list ≡ map (events.Change by) changes) }
 {
     let mut list = List::new(alloc);
@@ -74,7 +84,7 @@ fn steps(alloc: Global, by: Origin, changes: List<Change>) -> Result<List<Event>
 }
 
 // All changes are one step; none are no step.
-fn batch(alloc: Global, by: Origin, changes: List<Change>) -> Result<List<Event>, NoMemory>
+fn batch(alloc: Global, by: Origin, changes: List<Change>) -> Result<List<Event<Config>>, NoMemory>
     ensures { IfOk result (λ list. list ≡ batch by changes) }
 {
     let mut list = List::new(alloc);
@@ -102,7 +112,6 @@ fn continued(alloc: Global, by: Origin, outcomes: Outcomes) -> Result<Prepared, 
             messages: empty_message(alloc)?,
             events: steps(alloc, by, changes(alloc, outcomes)?)?,
             notices: List::new(alloc),
-            effect: Effect::Nothing,
         });
     }
     let status = messages::of_continued(alloc, outcomes.as_slice())?;
@@ -111,7 +120,6 @@ fn continued(alloc: Global, by: Origin, outcomes: Outcomes) -> Result<Prepared, 
         messages: only(alloc, status)?,
         events: steps(alloc, by, changes(alloc, outcomes)?)?,
         notices: List::new(alloc),
-        effect: Effect::Nothing,
     })
 }
 
@@ -125,7 +133,6 @@ fn all_or_nothing(alloc: Global, by: Origin, outcomes: Outcomes) -> Result<Prepa
             messages: empty_message(alloc)?,
             events: batch(alloc, by, changes(alloc, outcomes)?)?,
             notices: List::new(alloc),
-            effect: Effect::Nothing,
         });
     }
     let status = messages::of_batch(alloc, outcomes.as_slice())?;
@@ -134,7 +141,6 @@ fn all_or_nothing(alloc: Global, by: Origin, outcomes: Outcomes) -> Result<Prepa
         messages: only(alloc, status)?,
         events: List::new(alloc),
         notices: List::new(alloc),
-        effect: Effect::Nothing,
     })
 }
 

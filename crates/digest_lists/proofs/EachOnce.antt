@@ -5,17 +5,17 @@ use Rattle.std.proofs.lemmas.Bool.Decides.{nat_tests}
 use Rattle.std.proofs.lemmas.List.{map-append, take-append-drop, length-map, length-take}
 use Rattle.p4_types.specs.declared.messages.DigestConfig.{DigestConfig}
 use Rattle.p4_types.specs.declared.messages.P4Data.{P4Data}
-use Rattle.digest_lists.specs.declared.samples.Sample.{Sample}
+use Rattle.digest_lists.specs.declared.samples.TakenSample.{TakenSample}
 use Rattle.digest_lists.specs.State.{DigestState, natural, list_size}
 use Rattle.digest_lists.specs.Sending.{is_passed_over, is_full, first_is_old, list_of, after_sending, with_sample}
 use Rattle.digest_lists.specs.Laws.{contents, sent_contents, EachOnce, ListSizes}
 
 -- the first n and the others are all
-parted : (n : ℕ) (samples : List Sample) → contents (take n samples) ++ contents (drop n samples) ≡ contents samples
-parted n samples = sym (map-append (λ (sample : Sample). sample.content) (take n samples) (drop n samples)) ∙ ap contents (take-append-drop n samples)
+parted : (n : ℕ) (samples : List TakenSample) → contents (take n samples) ++ contents (drop n samples) ≡ contents samples
+parted n samples = sym (map-append (λ (sample : TakenSample). sample.content) (take n samples) (drop n samples)) ∙ ap contents (take-append-drop n samples)
 
-one_more : (samples : List Sample) (sample : Sample) → contents (samples ++ sample ∷ []) ≡ contents samples ++ sample.content ∷ []
-one_more samples sample = map-append (λ (s : Sample). s.content) samples (sample ∷ [])
+one_more : (samples : List TakenSample) (sample : TakenSample) → contents (samples ++ sample ∷ []) ≡ contents samples ++ sample.content ∷ []
+one_more samples sample = map-append (λ (s : TakenSample). s.content) samples (sample ∷ [])
 
 at_sample : (over full : Bool) (digest : DigestState) (content : P4Data) (now : ℕ)
     → sent_contents (cond over None (cond full (Some (list_of (with_sample digest content now) now)) None)) ++ contents (cond over digest (cond full (after_sending (with_sample digest content now) now) (with_sample digest content now))).gathered
@@ -30,10 +30,10 @@ each_once = record {
   sample = λ digest content now. at_sample (is_passed_over digest content now) (is_full (with_sample digest content now)) digest content now;
 }
 
-length-contents : (samples : List Sample) → length (contents samples) ≡ length samples
-length-contents samples = length-map samples (λ (sample : Sample). sample.content)
+length-contents : (samples : List TakenSample) → length (contents samples) ≡ length samples
+length-contents samples = length-map samples (λ (sample : TakenSample). sample.content)
 
-taken_length : (n : ℕ) (samples : List Sample) → length (contents (take n samples)) ≡ min n (length samples)
+taken_length : (n : ℕ) (samples : List TakenSample) → length (contents (take n samples)) ≡ min n (length samples)
 taken_length n samples = length-contents (take n samples) ∙ length-take n samples
 
 size_if : (b : Bool) (size : ℕ) → b ≡ eqb size 0 → 0 < cond b 64 size
@@ -44,7 +44,7 @@ size_if false size e = grind (arith, nat_tests)
 size_positive : (config : DigestConfig) → 0 < list_size config
 size_positive config = size_if _ (natural config.max_list_size) refl
 
-due_has : (n age now : ℕ) (samples : List Sample) → 0 < n → (leb n (length samples) || first_is_old samples age now) ≡ true → 0 < length samples
+due_has : (n age now : ℕ) (samples : List TakenSample) → 0 < n → (leb n (length samples) || first_is_old samples age now) ≡ true → 0 < length samples
 due_has n age now [] positive h = absurd (false≢true (grind (arith, nat_tests)))
 due_has n age now (first ∷ rest) positive h = omega arith
 

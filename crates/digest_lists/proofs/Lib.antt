@@ -4,3 +4,4 @@ pub mod EachOnce
 pub mod PassedOver
 pub mod Soundness
 pub mod Counting
+pub mod Few

@@ -6,7 +6,7 @@ use Rattle.std.proofs.lemmas.Bool.Decides.{nat_tests}
 use Rattle.std.proofs.lemmas.List.{drop-append-le}
 use Rattle.std.proofs.lemmas.List.Folds.{list_any-append}
 use Rattle.p4_types.specs.declared.messages.P4Data.{P4Data}
-use Rattle.digest_lists.specs.declared.samples.Sample.{Sample}
+use Rattle.digest_lists.specs.declared.samples.TakenSample.{TakenSample}
 use Rattle.digest_lists.specs.declared.samples.SentList.{SentList}
 use Rattle.digest_lists.specs.Data.{same_data}
 use Rattle.digest_lists.specs.State.{DigestState, natural}
@@ -27,12 +27,12 @@ last_passes : (test : SentList → Bool) (lists : List SentList) (last : SentLis
 last_passes test lists last k within h =
     ap (list_any test) (drop-append-le k lists (last ∷ []) within) ∙ (list_any-append test (drop k lists) (last ∷ []) ∙ or_right _ _ (or_left _ _ h))
 
-has_it : (content : P4Data) (samples : List Sample) (sample : Sample) → sample.content ≡ content → IsAmong sample samples → list_any (λ s. same_data s.content content) samples ≡ true
+has_it : (content : P4Data) (samples : List TakenSample) (sample : TakenSample) → sample.content ≡ content → IsAmong sample samples → list_any (λ s. same_data s.content content) samples ≡ true
 has_it content [] sample e among = absurd among
-has_it content (first ∷ rest) sample e (inl same) = or_left _ _ (ap (λ x. same_data x content) (sym (ap (λ (s : Sample). s.content) same) ∙ e) ∙ data_same content)
+has_it content (first ∷ rest) sample e (inl same) = or_left _ _ (ap (λ x. same_data x content) (sym (ap (λ (s : TakenSample). s.content) same) ∙ e) ∙ data_same content)
 has_it content (first ∷ rest) sample e (inr among) = or_right _ _ (has_it content rest sample e among)
 
-at_sent : (digest : DigestState) (now later : ℕ) (sample : Sample) → IsAmong sample (next_samples digest) → later - now < natural digest.config.ack_timeout_ns → is_passed_over (after_sending digest now) sample.content later ≡ true
+at_sent : (digest : DigestState) (now later : ℕ) (sample : TakenSample) → IsAmong sample (next_samples digest) → later - now < natural digest.config.ack_timeout_ns → is_passed_over (after_sending digest now) sample.content later ≡ true
 at_sent digest now later sample among young =
     last_passes (λ sent. is_fresh digest.config later sent && has_sample sample.content sent) digest.waiting (sent_list digest now) _
     (omega (arith, length-append digest.waiting (sent_list digest now ∷ [])))

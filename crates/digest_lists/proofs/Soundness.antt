@@ -1,6 +1,6 @@
 -- What each call keeps, and which list a tick sends.
-use Rattle.std.proofs.Common.{◌≡◌, ℕ, suc, ◌-◌, ◌<◌, ◌≤◌, ◌⊎◌, Bool, true, false, cond, eqb, ltb, not, ◌||◌, List, [], ◌∷◌, ◌++◌, length, Option, Some, None, IsSomeAnd, refl, sym, ap, ◌∙◌, arith, inl, inr, length-drop}
-use Rattle.std.specs.List.{AllByRecursion as Each, filter, find}
+use Rattle.std.proofs.Common.{◌≡◌, ℕ, suc, ◌-◌, ◌<◌, ◌≤◌, ◌⊎◌, Bool, true, false, cond, eqb, ltb, not, ◌||◌, List, [], ◌∷◌, ◌++◌, length, get_or, set, Option, Some, None, IsSomeAnd, Result, Ok, Err, OnOk, OnErr, refl, sym, ap, ◌∙◌, subst, arith, inl, inr, length-drop}
+use Rattle.std.specs.List.{AllByRecursion as Each, filter, find, position}
 use Rattle.std.specs.Option.{option_map}
 use Rattle.std.proofs.lemmas.Bool.{false≢true}
 use Rattle.std.proofs.lemmas.Bool.Decides.{nat_tests}
@@ -11,6 +11,7 @@ use Rattle.digest_lists.specs.Sending.{is_passed_over, is_full, is_due, list_of,
 use Rattle.digest_lists.specs.Fold.{change_first, inserted, is_set, with_config, set_digest, sent_at_tick, Call, step}
 use Rattle.digest_lists.specs.Fold as calls
 use Rattle.digest_lists.specs.Laws.{IsAmong, IsRising, IsSound, StaysSound, LowestIsSent}
+use Rattle.digest_lists.proofs.Places.{changed_by}
 
 each_weaker : {X : Type 0} (P Q : X → Type 0) → ((x : X) → P x → Q x) → (xs : List X) → Each P xs → Each Q xs
 each_weaker P Q h [] all = tt
@@ -88,7 +89,7 @@ rising_inserted new (d ∷ rest) unset rising =
 abbrev FewWait : DigestState → Type 0
 FewWait d = length d.waiting ≤ 64
 
-few_newest : (lists : List SentList) → length (newest_64 lists) ≤ 64
+pub few_newest : (lists : List SentList) → length (newest_64 lists) ≤ 64
 few_newest lists = omega (arith, length-drop (length lists - 64) lists)
 
 filter_head : (b : Bool) (sent : SentList) (rest : List SentList) (n : ℕ) → length rest ≤ n → length (cond b (sent ∷ rest) rest) ≤ suc n
@@ -107,7 +108,7 @@ few_if true full d more after p q r = p
 few_if false true d more after p q r = r
 few_if false false d more after p q r = q
 
-few_after_sample : (content : P4Data) (now : ℕ) (d : DigestState) → FewWait d → FewWait (after_sample d content now)
+pub few_after_sample : (content : P4Data) (now : ℕ) (d : DigestState) → FewWait d → FewWait (after_sample d content now)
 few_after_sample content now d few = few_if (is_passed_over d content now) (is_full (with_sample d content now)) d (with_sample d content now) (after_sending (with_sample d content now) now) few few (few_newest (d.waiting ++ sent_list (with_sample d content now) now ∷ []))
 
 same_id_if : (over full : Bool) (d more after : DigestState) → more.id ≡ d.id → after.id ≡ d.id → (cond over d (cond full after more)).id ≡ d.id
@@ -146,6 +147,12 @@ each_call digests (calls.Set id (Some config)) sound =
 each_call digests (calls.Sample id content now) sound = changed_sound (λ d. eqb d.id id) (λ d. after_sample d content now) (same_after_sample content now) (few_after_sample content now) digests sound
 each_call digests (calls.Ack id list) sound = changed_sound (λ d. eqb d.id id) (λ d. after_ack d list) (λ d. refl) (few_after_ack list) digests sound
 each_call digests (calls.Tick now) sound = changed_sound (λ d. is_due d now) (λ d. after_sending d now) (λ d. refl) (λ d few. few_newest (d.waiting ++ sent_list d now ∷ [])) digests sound
+
+-- where a digest is changed at its place, or stays as it was
+pub sound_at : {X E : Type 0} (r : Result X E) (p : DigestState → Bool) (f : DigestState → DigestState) → ((d : DigestState) → (f d).id ≡ d.id) → ((d : DigestState) → length d.waiting ≤ 64 → length (f d).waiting ≤ 64)
+    → (digests : List DigestState) (i : ℕ) (d new : DigestState) → position p digests ≡ Some i → d ≡ get_or digests i d → OnOk r (new ≡ f d) → OnErr r (new ≡ d) → IsSound digests → IsSound (set digests i new)
+sound_at (Ok x) p f same few digests i d new at there ok err sound = subst IsSound (sym (changed_by p f digests i d new at there ok)) (changed_sound p f same few digests sound)
+sound_at (Err e) p f same few digests i d new at there ok err sound = subst IsSound (sym (changed_by p (λ x. x) digests i d new at there err)) (changed_sound p (λ x. x) (λ x. refl) (λ x h. h) digests sound)
 
 pub stays_sound : StaysSound
 stays_sound = record { at_first = record { rising = tt; few_wait = tt }; each_call = each_call }

@@ -5,7 +5,7 @@ use Rattle.p4_types.specs.declared.messages.DigestConfig.{DigestConfig}
 use Rattle.p4_types.specs.declared.messages.DigestList.{DigestList}
 use Rattle.p4_types.specs.declared.messages.P4Data.{P4Data}
 use Rattle.p4_types.specs.declared.messages.P4Data.TheVariants as data_of
-use Rattle.digest_lists.specs.declared.samples.Sample.{Sample}
+use Rattle.digest_lists.specs.declared.samples.TakenSample.{TakenSample}
 use Rattle.digest_lists.specs.Data.{same_data}
 use Rattle.digest_lists.specs.State.{DigestState, natural, list_size}
 use Rattle.digest_lists.specs.Sending.{has_sample, is_passed_over, is_due, next_samples, list_of, after_sending, sent_by_sample, after_sample, after_ack}
@@ -18,7 +18,7 @@ pub record SameIsEqual : Type 0 where
   pub same : (a : P4Data) → same_data a a ≡ true
 
 -- the data of samples
-abbrev pub contents : List Sample → List P4Data
+abbrev pub contents : List TakenSample → List P4Data
 contents samples = map (λ sample. sample.content) samples
 
 -- the data that are sent, if a list is
@@ -45,7 +45,7 @@ IsAmong x (first ∷ rest) = (x ≡ first) ⊎ IsAmong x rest
 
 -- What was sent is passed over until it is acknowledged or old.
 pub record PassedOver : Type 0 where
-  pub sent : (digest : DigestState) (now later : ℕ) (sample : Sample) → IsAmong sample (next_samples digest) → later - now < natural digest.config.ack_timeout_ns → is_passed_over (after_sending digest now) sample.content later ≡ true
+  pub sent : (digest : DigestState) (now later : ℕ) (sample : TakenSample) → IsAmong sample (next_samples digest) → later - now < natural digest.config.ack_timeout_ns → is_passed_over (after_sending digest now) sample.content later ≡ true
   pub acknowledged : (digest : DigestState) (list : ℕ) (content : P4Data) (now : ℕ) → Each (λ sent. has_sample content sent ≡ true → sent.list_id ≡ list) digest.waiting → is_passed_over (after_ack digest list) content now ≡ false
   pub old : (digest : DigestState) (content : P4Data) (now : ℕ) → Each (λ sent. natural digest.config.ack_timeout_ns ≤ now - sent.sent_at) digest.waiting → is_passed_over digest content now ≡ false
 
@@ -64,6 +64,10 @@ pub record IsSound (digests : List DigestState) : Type 0 where
 pub record StaysSound : Type 0 where
   pub at_first : IsSound []
   pub each_call : (digests : List DigestState) (call : Call) → IsSound digests → IsSound (step digests call).digests
+
+-- Where each digest that is set is one of so many, at most so many are set.
+abbrev pub AtMostAsMany : Type 0
+AtMostAsMany = (digests : List DigestState) (ids : List ℕ) → IsRising digests → Each (λ digest. IsAmong digest.id ids) digests → length digests ≤ length ids
 
 -- A tick sends a list where a digest is due, and no due digest has a lower id than that of the list; where none is due it sends none.
 pub record LowestIsSent : Type 0 where

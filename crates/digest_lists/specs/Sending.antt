@@ -4,7 +4,7 @@ use Rattle.std.specs.List.{list_any}
 use Rattle.p4_types.specs.declared.messages.DigestConfig.{DigestConfig}
 use Rattle.p4_types.specs.declared.messages.DigestList.{DigestList}
 use Rattle.p4_types.specs.declared.messages.P4Data.{P4Data}
-use Rattle.digest_lists.specs.declared.samples.Sample.{Sample}
+use Rattle.digest_lists.specs.declared.samples.TakenSample.{TakenSample}
 use Rattle.digest_lists.specs.declared.samples.SentList.{SentList}
 use Rattle.digest_lists.specs.Data.{same_data}
 use Rattle.digest_lists.specs.State.{DigestState, natural, list_size}
@@ -26,7 +26,7 @@ abbrev pub is_full : DigestState → Bool
 is_full digest = nat_le (list_size digest.config) (length digest.gathered)
 
 -- the first of the samples is so old
-abbrev pub first_is_old : List Sample → ℕ → ℕ → Bool
+abbrev pub first_is_old : List TakenSample → ℕ → ℕ → Bool
 first_is_old [] age now = false
 first_is_old (first ∷ rest) age now = nat_le age (now - first.taken_at)
 
@@ -43,7 +43,7 @@ abbrev pub timestamp_of : ℕ → ℤ
 timestamp_of now = pos (min now (2 ^ 63 - 1))
 
 -- the samples that the next list takes
-abbrev pub next_samples : DigestState → List Sample
+abbrev pub next_samples : DigestState → List TakenSample
 next_samples digest = take (list_size digest.config) digest.gathered
 
 -- the list that is sent

@@ -1,7 +1,7 @@
 -- What is kept of a digest, and what its configuration says (P4Runtime 1.3.0, "DigestEntry").
-use Rattle.std.specs.Prelude.{ℕ, ◌==◌, if◌then◌else◌, List, [], ℤ, pos, negsuc}
+use Rattle.std.specs.Prelude.{ℕ, ◌==◌, if◌then◌else◌, List, [], map, ℤ, pos, negsuc}
 use Rattle.p4_types.specs.declared.messages.DigestConfig.{DigestConfig}
-use Rattle.digest_lists.specs.declared.samples.Sample.{Sample}
+use Rattle.digest_lists.specs.declared.samples.TakenSample.{TakenSample}
 use Rattle.digest_lists.specs.declared.samples.SentList.{SentList}
 
 -- a digest that is set
@@ -9,7 +9,7 @@ pub record DigestState : Type 0 where
   pub id : ℕ
   pub config : DigestConfig
   -- the samples that were taken and not sent yet, oldest first
-  pub gathered : List Sample
+  pub gathered : List TakenSample
   -- the lists that were sent and wait for their acknowledgement, oldest first
   pub waiting : List SentList
   -- the id of the list that was sent last, 0 before the first
@@ -31,3 +31,7 @@ size_or_64 size = if size == 0 then 64 else size
 -- how many samples a list has at most; 0 stands for 64 (this project's profile)
 abbrev pub list_size : DigestConfig → ℕ
 list_size config = size_or_64 (natural config.max_list_size)
+
+-- the ids that are set, in their order
+abbrev pub ids_of : List DigestState → List ℕ
+ids_of digests = map (λ digest. digest.id) digests

@@ -3,7 +3,7 @@ ghost use Rattle.std.specs.Prelude.{◌≡◌, ◌==◌, ◌++◌, [], ◌∷◌
 ghost use Rattle.digest_lists.specs.State.{natural, list_size, new_digest};
 ghost use Rattle.digest_lists.specs.Sending.{is_fresh, is_passed_over, is_full, first_is_old, is_due, list_of, newest_64, after_sending, sent_by_sample, after_sample, after_ack, timestamp_of};
 
-use crate::samples::{self, Sample, SentList};
+use crate::samples::{self, SentList, TakenSample};
 use list_types::{List, NoMemory};
 use p4_types::messages::{DigestConfig, DigestList, P4Data};
 use std::alloc::Global;
@@ -34,7 +34,7 @@ fn timestamp_of(now: u64) -> i64
     now.min(i64::MAX as u64) as i64
 }
 
-fn first_is_old(samples: &[Sample], age: u64, now: u64) -> bool
+fn first_is_old(samples: &[TakenSample], age: u64, now: u64) -> bool
     ensures { result ≡ first_is_old samples.now age now }
 {
     match samples {
@@ -73,7 +73,7 @@ fn forget(waiting: &mut Vec<SentList>, list: u64)
 pub(crate) struct Digest {
     id: u32,
     config: DigestConfig,
-    gathered: Vec<Sample>,
+    gathered: Vec<TakenSample>,
     waiting: Vec<SentList>,
     last_list: u64,
 }
@@ -190,7 +190,7 @@ impl Digest {
             return Ok(None);
         }
         let taken_at = now;
-        self.gathered.push(Sample { content, taken_at })?;
+        self.gathered.push(TakenSample { content, taken_at })?;
         if !self.is_full() {
             return Ok(None);
         }

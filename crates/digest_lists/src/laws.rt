@@ -1,5 +1,5 @@
 //! Laws of digests, each the contract of a function that does nothing.
-ghost use Rattle.digest_lists.specs.Laws.{SameIsEqual, EachOnce, ListSizes, PassedOver, StaysSound, LowestIsSent, CountsFromOne, WorkedRun};
+ghost use Rattle.digest_lists.specs.Laws.{SameIsEqual, EachOnce, ListSizes, PassedOver, StaysSound, AtMostAsMany, LowestIsSent, CountsFromOne, WorkedRun};
 
 /// The test of equal samples tells just whether they are equal.
 pub fn same_is_equal()
@@ -24,6 +24,11 @@ pub fn passed_over()
 /// Ids of digests rise, and at most 64 lists of a digest wait.
 pub fn stays_sound()
     ensures { StaysSound }
+{}
+
+/// Where each digest that is set is one of so many, at most so many are set.
+pub fn at_most_as_many()
+    ensures { AtMostAsMany }
 {}
 
 /// A tick sends the list of the lowest digest that is due.

@@ -1,8 +1,10 @@
 //! The digests that are set.
-ghost use Rattle.std.specs.Prelude.{◌≡◌, ◌==◌, ◌<◌, ◌≤◌, [], not, length, filter, position, nat_lt, vec_len, vec_capacity, IfOk, OnOk, OnErr};
+ghost use Rattle.std.specs.Prelude.{◌≡◌, ◌==◌, ◌<◌, ◌≤◌, [], not, length, filter, position, nat_lt, slice_get, vec_len, vec_capacity, Some, IfOk, OnOk, OnErr};
 ghost use Rattle.std.specs.List.{position_or_len};
 ghost use Rattle.std.specs.Option.{option_copied};
+ghost use Rattle.digest_lists.specs.State.{ids_of};
 ghost use Rattle.digest_lists.specs.Sending.{is_due};
+ghost use Rattle.digest_lists.specs.Laws.{IsSound};
 ghost use Rattle.digest_lists.specs.Fold.{HasRoom, inserted, with_config, set_digest, take_sample, sent_at_sample, acknowledge, send_due, sent_at_tick};
 
 use crate::digest::Digest;
@@ -86,12 +88,13 @@ impl Model for Lists {
     ghost use Rattle.std.specs.Prelude as spec;
     ghost use Rattle.std.specs.Prelude.{vec_len, vec_capacity, ◌≤◌};
     ghost use Rattle.digest_lists.specs.State.{DigestState};
+    ghost use Rattle.digest_lists.specs.Laws.{IsSound};
 
     ghost Value = { spec.List DigestState };
 
     ghost view = { λ lists. lists.digests.items };
 
-    ghost invariant = { λ lists. (vec_len lists.digests ≤ 128) × (128 ≤ vec_capacity lists.digests) };
+    ghost invariant = { λ lists. (vec_len lists.digests ≤ 128) × (128 ≤ vec_capacity lists.digests) × IsSound lists.digests.items };
 }
 
 impl Lists {
@@ -103,12 +106,21 @@ impl Lists {
         Ok(Lists { digests, alloc })
     }
 
-    /// How many digests are set.
+    /// How many digests are set: at most 128, by rising id.
     pub fn len(&self) -> usize
         ensures len { result ≡ length self.now }
         ensures few { result ≤ 128 }
+        ensures sound { IsSound self.now }
     {
         self.digests.len()
+    }
+
+    /// The id of a digest that is set, by its place among them.
+    pub fn id(&self, place: usize) -> u32
+        requires { place < length self.now }
+        ensures { slice_get (ids_of self.now) place ≡ Some result }
+    {
+        self.digests[place].id()
     }
 
     pub fn is_empty(&self) -> bool

@@ -9,7 +9,7 @@ use std::alloc::Global;
 
 /// A sample, and the moment at which it was taken, in nanoseconds.
 #[derive(Drop)]
-pub(crate) struct Sample {
+pub(crate) struct TakenSample {
     pub(crate) content: P4Data,
     pub(crate) taken_at: u64,
 }
@@ -19,7 +19,7 @@ pub(crate) struct Sample {
 pub(crate) struct SentList {
     pub(crate) list_id: u64,
     pub(crate) sent_at: u64,
-    pub(crate) samples: List<Sample>,
+    pub(crate) samples: List<TakenSample>,
 }
 
 fn same_members(a: &[ByteList], b: &[ByteList]) -> bool
@@ -90,7 +90,10 @@ fn copy_data(alloc: Global, content: &P4Data) -> Result<P4Data, NoMemory>
 }
 
 /// The data of samples.
-pub(crate) fn copy_contents(alloc: Global, samples: &[Sample]) -> Result<List<P4Data>, NoMemory>
+pub(crate) fn copy_contents(
+    alloc: Global,
+    samples: &[TakenSample],
+) -> Result<List<P4Data>, NoMemory>
     ensures { IfOk result (λ contents. contents ≡ map (λ sample. sample.content) samples.now) }
 {
     let mut contents = List::new(alloc);

@@ -39,3 +39,15 @@ padded_flag = 0x8
 -- PRIORITY, of HEADERS
 abbrev pub priority_flag : ℕ
 priority_flag = 0x20
+
+-- SETTINGS_HEADER_TABLE_SIZE (section 6.5.2)
+abbrev pub header_table_size : ℕ
+header_table_size = 1
+
+-- SETTINGS_INITIAL_WINDOW_SIZE
+abbrev pub initial_window_size : ℕ
+initial_window_size = 4
+
+-- SETTINGS_MAX_FRAME_SIZE
+abbrev pub max_frame_size : ℕ
+max_frame_size = 5

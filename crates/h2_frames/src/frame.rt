@@ -18,6 +18,21 @@ pub struct Setting {
     pub value: u32,
 }
 
+impl Setting {
+    /// The greatest dynamic table, in bytes, with which the sender of the setting decodes.
+    pub const HEADER_TABLE_SIZE: u16 = 1;
+
+    pub const ENABLE_PUSH: u16 = 2;
+
+    pub const MAX_CONCURRENT_STREAMS: u16 = 3;
+    /// The window of a new stream, in bytes.
+    pub const INITIAL_WINDOW_SIZE: u16 = 4;
+    /// The longest payload, in bytes.
+    pub const MAX_FRAME_SIZE: u16 = 5;
+
+    pub const MAX_HEADER_LIST_SIZE: u16 = 6;
+}
+
 /// A frame without its padding (RFC 9113, section 6). The numbers of streams have 31 bits.
 #[derive(Drop)]
 pub enum Frame {

@@ -21,12 +21,6 @@ const PADDED: u8 = 0x8;
 
 const PRIORITY: u8 = 0x20;
 
-const ENABLE_PUSH: u16 = 2;
-
-const INITIAL_WINDOW_SIZE: u16 = 4;
-
-const MAX_FRAME_SIZE: u16 = 5;
-
 const SIZE: FrameError = FrameError::Refused(H2Code::FrameSizeError);
 
 const PROTOCOL: FrameError = FrameError::Refused(H2Code::ProtocolError);
@@ -200,15 +194,15 @@ fn settings_in(alloc: Global, bytes: &[u8]) -> Result<List<Setting>, FrameError>
 fn breaks_protocol(setting: &Setting) -> bool
     ensures { result ≡ breaks_protocol setting.now }
 {
-    (setting.identifier == ENABLE_PUSH && setting.value > 1)
-        || (setting.identifier == MAX_FRAME_SIZE
+    (setting.identifier == Setting::ENABLE_PUSH && setting.value > 1)
+        || (setting.identifier == Setting::MAX_FRAME_SIZE
             && (setting.value < 16_384 || setting.value > 16_777_215))
 }
 
 fn breaks_flow_control(setting: &Setting) -> bool
     ensures { result ≡ breaks_flow_control setting.now }
 {
-    setting.identifier == INITIAL_WINDOW_SIZE && setting.value > 0x7fff_ffff
+    setting.identifier == Setting::INITIAL_WINDOW_SIZE && setting.value > 0x7fff_ffff
 }
 
 fn any_breaks_protocol(settings: &[Setting]) -> bool

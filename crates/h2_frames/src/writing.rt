@@ -4,6 +4,7 @@ ghost use Rattle.std.specs.List.{flat_map};
 ghost use Rattle.std.specs.Int.{w32, to_be_bytes};
 ghost use Rattle.h2_frames.specs.Layout.{kind_of, flags_of, stream_of, flag_if, priority_bytes, priority_part, setting_bytes, payload_of, head_bytes, spelling};
 ghost use Rattle.h2_frames.specs.Laws.{PriorityFits, NumbersFit};
+ghost use Rattle.h2_frames.specs.declared.frame.Frame.TheVariants as frames;
 
 use crate::frame::{Frame, Setting, StreamPriority};
 use list_types::{ByteList, NoMemory};
@@ -279,4 +280,139 @@ pub fn write_frame(alloc: Global, frame: &Frame, out: &mut ByteList) -> Result<(
     }
     *out = ByteList::from_vec(bytes);
     written
+}
+
+fn push_parts(
+    bytes: &mut Vec<u8>,
+    kind: u8,
+    flags: u8,
+    stream: u32,
+    payload: &[u8],
+) -> Result<(), NoMemory>
+    requires { length payload.now < 2 ^ 24 }
+    ensures ok { OnOk result (bytes.new.items ≡ bytes.old.items ++ (head_bytes (length payload.now) kind flags stream ++ payload.now)) }
+    ensures kept { take (length bytes.old.items) bytes.new.items ≡ bytes.old.items }
+{
+    push_head(bytes, payload.len() as u32, kind, flags, stream)?;
+    bytes.extend_from_slice(payload)?;
+    Ok(())
+}
+
+// A head and its payload at the end of bytes, or the bytes as before.
+fn write_parts(
+    alloc: Global,
+    kind: u8,
+    flags: u8,
+    stream: u32,
+    payload: &[u8],
+    out: &mut ByteList,
+) -> Result<(), NoMemory>
+    requires { length payload.now < 2 ^ 24 }
+    ensures ok { OnOk result (out.new ≡ out.old ++ (head_bytes (length payload.now) kind flags stream ++ payload.now)) }
+    ensures err { OnErr result (out.new ≡ out.old) }
+{
+    let mut bytes = std::mem::replace(out, ByteList::new(alloc)).into_vec();
+    let start = bytes.len();
+    let written = push_parts(&mut bytes, kind, flags, stream, payload);
+    if written.is_err() {
+        bytes.truncate(start);
+    }
+    *out = ByteList::from_vec(bytes);
+    written
+}
+
+/// Adds a DATA frame of these bytes, which are copied once. Without memory `out` is as before.
+pub fn write_data(
+    alloc: Global,
+    stream: u32,
+    end_stream: bool,
+    payload: &[u8],
+    out: &mut ByteList,
+) -> Result<(), NoMemory>
+    requires { length payload.now < 2 ^ 24 }
+    ensures ok { OnOk result (out.new ≡ out.old ++ spelling (frames.Data stream end_stream payload.now)) }
+    ensures err { OnErr result (out.new ≡ out.old) }
+{
+    write_parts(alloc, 0, flag_if(end_stream, 0x1), stream, payload, out)
+}
+
+/// Adds a HEADERS frame without a priority, of this fragment of a header block. Without memory
+/// `out` is as before.
+pub fn write_headers(
+    alloc: Global,
+    stream: u32,
+    end_stream: bool,
+    end_headers: bool,
+    fragment: &[u8],
+    out: &mut ByteList,
+) -> Result<(), NoMemory>
+    requires { length fragment.now < 2 ^ 24 }
+    ensures ok { OnOk result (out.new ≡ out.old ++ spelling (frames.Headers stream end_stream end_headers None fragment.now)) }
+    ensures err { OnErr result (out.new ≡ out.old) }
+{
+    let flags = flag_if(end_stream, 0x1) + flag_if(end_headers, 0x4);
+    write_parts(alloc, 1, flags, stream, fragment, out)
+}
+
+/// Adds a CONTINUATION frame of this fragment of a header block. Without memory `out` is as before.
+pub fn write_continuation(
+    alloc: Global,
+    stream: u32,
+    end_headers: bool,
+    fragment: &[u8],
+    out: &mut ByteList,
+) -> Result<(), NoMemory>
+    requires { length fragment.now < 2 ^ 24 }
+    ensures ok { OnOk result (out.new ≡ out.old ++ spelling (frames.Continuation stream end_headers fragment.now)) }
+    ensures err { OnErr result (out.new ≡ out.old) }
+{
+    write_parts(alloc, 9, flag_if(end_headers, 0x4), stream, fragment, out)
+}
+
+/// Adds a RST_STREAM frame. Without memory `out` is as before.
+pub fn write_rst_stream(
+    alloc: Global,
+    stream: u32,
+    error_code: u32,
+    out: &mut ByteList,
+) -> Result<(), NoMemory>
+    ensures ok { OnOk result (out.new ≡ out.old ++ spelling (frames.RstStream stream error_code)) }
+    ensures err { OnErr result (out.new ≡ out.old) }
+{
+    write_parts(alloc, 3, 0, stream, &error_code.to_be_bytes(), out)
+}
+
+/// Adds a WINDOW_UPDATE frame. Without memory `out` is as before.
+pub fn write_window_update(
+    alloc: Global,
+    stream: u32,
+    window_size_increment: u32,
+    out: &mut ByteList,
+) -> Result<(), NoMemory>
+    ensures ok { OnOk result (out.new ≡ out.old ++ spelling (frames.WindowUpdate stream window_size_increment)) }
+    ensures err { OnErr result (out.new ≡ out.old) }
+{
+    write_parts(
+        alloc,
+        8,
+        0,
+        stream,
+        &window_size_increment.to_be_bytes(),
+        out,
+    )
+}
+
+/// Adds a GOAWAY frame without debug data. Without memory `out` is as before.
+pub fn write_goaway(
+    alloc: Global,
+    last_stream: u32,
+    error_code: u32,
+    out: &mut ByteList,
+) -> Result<(), NoMemory>
+    ensures ok { OnOk result (out.new ≡ out.old ++ spelling (frames.GoAway last_stream error_code [])) }
+    ensures err { OnErr result (out.new ≡ out.old) }
+{
+    let [a, b, c, d] = last_stream.to_be_bytes();
+    let [e, f, g, h] = error_code.to_be_bytes();
+    write_parts(alloc, 7, 0, 0, &[a, b, c, d, e, f, g, h], out)
 }

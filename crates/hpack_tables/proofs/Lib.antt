@@ -14,3 +14,4 @@ pub mod Texts
 pub mod Parts
 pub mod Wholes
 pub mod Written
+mod UpdateBack

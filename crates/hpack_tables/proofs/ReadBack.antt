@@ -34,7 +34,7 @@ more_digits k value unit n fault rest le fits =
     let small : value + n % 128 * unit ≤ 2 ^ 32 - 1 = omega (arith, split n unit) in
     rw (more_bytes k n le, low, le-ltb (2 ^ 32 - 1) (value + n % 128 * unit) small, le-ltb (n % 128 + 128) 128 (omega arith)) refl
 
-digits_back : (k value unit n : ℕ) (fault : HpackFault) (rest : List ℕ) → n < 128 ^ suc k → value + n * unit ≤ 2 ^ 32 - 1 → integer_from fault value unit (digits (suc k) n ++ rest) ≡ Ok (value + n * unit, rest)
+pub digits_back : (k value unit n : ℕ) (fault : HpackFault) (rest : List ℕ) → n < 128 ^ suc k → value + n * unit ≤ 2 ^ 32 - 1 → integer_from fault value unit (digits (suc k) n ++ rest) ≡ Ok (value + n * unit, rest)
 digits_back zero value unit n fault rest below fits = last_digit 0 value unit n fault rest (omega arith) fits
 digits_back (suc k) value unit n fault rest below fits =
     elim (cases_lt n 128) [
@@ -80,7 +80,7 @@ field_back : (table : Table) (entry : Header) (rest : List ℕ) → length entry
 unfolding field_at
 field_back table entry rest short small = rw (literal_back table entry rest short small) refl
 
-fields_back : (n : ℕ) (table : Table) (room : ℕ) (headers : List Header) → length (block_bytes headers) ≤ n → sum_by entry_size headers ≤ room → room ≤ 65536 → fields_in n table room (block_bytes headers) ≡ Ok (headers, table)
+pub fields_back : (n : ℕ) (table : Table) (room : ℕ) (headers : List Header) → length (block_bytes headers) ≤ n → sum_by entry_size headers ≤ room → room ≤ 65536 → fields_in n table room (block_bytes headers) ≡ Ok (headers, table)
 unfolding fields_in
 fields_back zero table room [] long fits le = refl
 fields_back (suc n) table room [] long fits le = refl
@@ -90,7 +90,7 @@ fields_back (suc n) table room (entry ∷ headers) long fits le =
     let few = length-append (header_bytes entry) (block_bytes headers) in
     rw (field_back table entry (block_bytes headers) (omega (arith, parts)) (omega (arith, parts)), le-ltb room (entry_size entry) (omega (arith, parts)), fields_back n table (room - entry_size entry) headers (omega (arith, few)) (omega (arith, parts)) (omega arith)) refl
 
-no_updates : (n : ℕ) (table : Table) (headers : List Header) → updates_in n table (block_bytes headers) ≡ Ok (table, block_bytes headers)
+pub no_updates : (n : ℕ) (table : Table) (headers : List Header) → updates_in n table (block_bytes headers) ≡ Ok (table, block_bytes headers)
 unfolding updates_in
 no_updates zero table headers = refl
 no_updates (suc n) table [] = refl

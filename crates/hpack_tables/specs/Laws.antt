@@ -3,15 +3,20 @@ use Rattle.std.specs.Prelude.{◌≡◌, ◌↔◌, ℕ, ◌^◌, ◌<◌, ◌�
 use Rattle.hpack_tables.specs.declared.header.Header.{Header}
 use Rattle.hpack_tables.specs.Strings.{huffman_text}
 use Rattle.hpack_tables.specs.declared.fault.HpackFault.TheVariants.{BadIndex, BadHuffman, TableSize, Truncated}
-use Rattle.hpack_tables.specs.Tables.{header, entry_size, Table, entry_at}
+use Rattle.hpack_tables.specs.Tables.{header, entry_size, Table, resized, entry_at}
 use Rattle.hpack_tables.specs.Blocks.{block_at}
-use Rattle.hpack_tables.specs.Writing.{block_bytes}
+use Rattle.hpack_tables.specs.Writing.{block_bytes, update_bytes}
 use Rattle.hpack_tables.specs.Huffman.{code_of, IsHuffmanOf}
 use Rattle.hpack_tables.specs.Headers.{IsBlock}
 
 -- What is written is read back, where it is not too large, and leaves the table as it is.
 abbrev pub ReadBack : Type 0
 ReadBack = (table : Table) (headers : List Header) → sum_by entry_size headers ≤ 65536 → block_at table (block_bytes headers) ≡ Ok (headers, table)
+
+-- An update of the table's size, written before a block, is read back as the table resized.
+abbrev pub UpdateBack : Type 0
+UpdateBack = (table : Table) (size : ℕ) (headers : List Header) → size ≤ 4096 → sum_by entry_size headers ≤ 65536
+    → block_at table (update_bytes size ++ block_bytes headers) ≡ Ok (headers, resized size table)
 
 -- No code begins with another one.
 abbrev pub PrefixFree : Type 0

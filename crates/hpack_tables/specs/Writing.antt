@@ -1,4 +1,4 @@
--- Headers as literals without indexing, each name written out and no Huffman code (RFC 7541, sections 5.1, 5.2 and 6.2.2).
+-- Headers as literals without indexing, each name written out and no Huffman code (RFC 7541, sections 5.1, 5.2 and 6.2.2), and updates of the table's size.
 use Rattle.std.specs.Prelude.{ℕ, zero, suc, ◌+◌, ◌-◌, ◌/◌, ◌%◌, nat_lt, if◌then◌else◌, List, [], ◌∷◌, ◌++◌, length}
 use Rattle.std.specs.List.{flat_map}
 use Rattle.hpack_tables.specs.declared.header.Header.{Header}
@@ -23,3 +23,7 @@ header_bytes header = 0 ∷ string_bytes header.name ++ string_bytes header.valu
 -- a block of these headers
 abbrev pub block_bytes : List Header → List ℕ
 block_bytes headers = flat_map header_bytes headers
+
+-- an update of the table's size, whose prefix has five bits (section 6.3)
+abbrev pub update_bytes : ℕ → List ℕ
+update_bytes size = if nat_lt size 31 then (32 + size) ∷ [] else 63 ∷ digits 10 (size - 31)

@@ -1,9 +1,14 @@
 //! Laws of header blocks, each the contract of a function that does nothing.
-ghost use Rattle.hpack_tables.specs.Laws.{ReadBack, PrefixFree, OneText, OneBlock, WrittenBlock, WorkedBlocks};
+ghost use Rattle.hpack_tables.specs.Laws.{ReadBack, UpdateBack, PrefixFree, OneText, OneBlock, WrittenBlock, WorkedBlocks};
 
 /// What is written is read back.
 pub fn read_back()
     ensures { ReadBack }
+{}
+
+/// An update that is written is read back as the table resized.
+pub fn update_back()
+    ensures { UpdateBack }
 {}
 
 /// No code of the Huffman code begins with another one.

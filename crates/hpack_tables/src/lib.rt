@@ -16,4 +16,4 @@ mod writing;
 pub use decoder::Decoder;
 pub use fault::{BlockError, HpackFault};
 pub use header::Header;
-pub use writing::encode;
+pub use writing::{encode, encode_size_update};

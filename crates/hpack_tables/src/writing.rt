@@ -1,7 +1,7 @@
 //! Writing header blocks.
-ghost use Rattle.std.specs.Prelude.{◌≡◌, ◌++◌, length, take, OnOk, IfOk};
+ghost use Rattle.std.specs.Prelude.{◌≡◌, ◌≤◌, ◌++◌, length, take, OnOk, IfOk};
 ghost use Rattle.std.specs.List.{flat_map};
-ghost use Rattle.hpack_tables.specs.Writing.{digits, length_bytes, string_bytes, header_bytes, block_bytes};
+ghost use Rattle.hpack_tables.specs.Writing.{digits, length_bytes, string_bytes, header_bytes, block_bytes, update_bytes};
 
 use crate::header::Header;
 use list_types::{ByteList, NoMemory};
@@ -61,6 +61,25 @@ pub fn encode(alloc: Global, headers: &[Header]) -> Result<ByteList, NoMemory>
     let mut bytes = Vec::new(alloc);
     for header in headers {
         push_header(&mut bytes, header)?;
+    }
+    Ok(ByteList::from_vec(bytes))
+}
+
+// The first byte of an update whose prefix says that the integer goes on.
+const LONG_UPDATE: u8 = 63;
+
+/// An update of the table's size, in bytes, which stands at the start of a block (RFC 7541, section
+/// 6.3). A decoder reads it as its table resized. It has at most three bytes.
+pub fn encode_size_update(alloc: Global, size: u32) -> Result<ByteList, NoMemory>
+    requires { size ≤ 4096 }
+    ensures { IfOk result (λ bytes. bytes ≡ update_bytes size) }
+{
+    let mut bytes = Vec::new(alloc);
+    if size < 31 {
+        bytes.push(32 + size as u8)?;
+    } else {
+        bytes.push(LONG_UPDATE)?;
+        push_digits(&mut bytes, u64::from(size) - 31)?;
     }
     Ok(ByteList::from_vec(bytes))
 }

@@ -1,6 +1,12 @@
-//! What waits for a controller: bounded lists of messages, first in first out (this project's profile).
+//! What waits for controllers: bounded lists of messages, first in first out, and the digest lists that become due (this project's profile).
 #![tactic(auto)]
 
+mod mail;
+mod mailbox;
+mod next;
 mod outbox;
 
-pub use outbox::Outbox;
+pub use mail::{LANE_LIMIT, Mail};
+pub use mailbox::{Mailbox, Waiting};
+pub use next::{Next, Output};
+pub use outbox::{NOTICE_LIMIT, Outbox, PACKET_LIMIT};

@@ -1,24 +1,26 @@
 // Updates that are undone together, and kept together.
-use crate::programs;
 use crate::vectors::{Row, run, say, tell};
-use crate::writes::{info_of, tell_cause, tell_entry};
-use control_state::{Draft, Fixed, Program, Written};
-use list_types::{List, NoMemory};
-use p4_types::calls::Call;
+use crate::writes::{tell_cause, tell_entry};
+use list_types::NoMemory;
+use p4_types::calls::{Call, Method};
+use p4_types::events::Start;
 use p4_types::messages::Update;
 use p4v1_read::read_call;
-use role_arbiter::Roles;
+use plane_image::Image;
 use std::alloc::Global;
 use std::test::Fail;
 
 const TABLE: u32 = 0x0200_0001;
+
+// The built-in bridge's own default action.
+const DROP: u32 = 0x0100_0002;
 
 // What becomes of each update; after they are undone the entry that the key 2 takes, and how many default actions are
 // changed; the same after they were made again and kept; the same after they were made once more and undone.
 const DRAFTS: [Row<'static>; 5] = [
     (
         "INSERT, MODIFY, a default action",
-        "08011a021001222408011220121e08818080101207080112030a01021a0e0a0c0881808008220510011a0102222408021220121e08818080101207080112030a01021a0e0a0c0881808008220510011a0103221608021212121008818080101a070a0508828080084001",
+        "08011a021001222408011220121e08818080101207080112030a01021a0e0a0c0881808008220510011a0102222408021220121e08818080101207080112030a01021a0e0a0c0881808008220510011a0103221d08021219121708818080101a0e0a0c0881808008220510011a01024001",
         "ok ok ok none 0 ok ok ok 1 to 3 1 rule 10 6 ok ok 1 to 3 1 ",
     ),
     (
@@ -33,25 +35,23 @@ const DRAFTS: [Row<'static>; 5] = [
     ),
     (
         "a default action changed and restored",
-        "08011a021001221608021212121008818080101a070a0508828080084001220d08021209120708818080104001",
+        "08011a021001221d08021219121708818080101a0e0a0c0881808008220510011a01024001220d08021209120708818080104001",
         "ok ok none 0 ok ok none 0 ok ok none 0 ",
     ),
     (
         "a default action restored and changed",
-        "08011a021001220d08021209120708818080104001221608021212121008818080101a070a0508828080084001",
+        "08011a021001220d08021209120708818080104001221d08021219121708818080101a0e0a0c0881808008220510011a01024001",
         "ok ok none 0 ok ok none 1 ok ok none 1 ",
     ),
 ];
 
 fn make(
     alloc: Global,
-    fixed: &Fixed,
-    roles: &Roles,
-    draft: &mut Draft,
+    image: &mut Image,
     updates: &[Update],
     told: &mut String,
 ) -> Result<(), NoMemory> {
-    let outcomes = draft.updates(alloc, fixed, roles, 0, updates)?;
+    let outcomes = image.updates(alloc, 0, updates)?;
     for outcome in outcomes.as_slice() {
         match outcome {
             Ok(_) => say(told, "ok "),
@@ -61,61 +61,40 @@ fn make(
     Ok(())
 }
 
-fn tell_written(told: &mut String, written: &Written) {
-    tell_entry(told, written.best(TABLE, &[2]));
-    tell(told, written.changed().len());
-}
-
-// Makes the updates and undoes them.
-fn undone(
-    alloc: Global,
-    fixed: &Fixed,
-    roles: &Roles,
-    written: Written,
-    updates: &[Update],
-    told: &mut String,
-) -> Result<Written, NoMemory> {
-    let mut draft = written.draft(alloc);
-    make(alloc, fixed, roles, &mut draft, updates, told)?;
-    let written = draft.undo();
-    tell_written(told, &written);
-    Ok(written)
-}
-
-// Makes the updates and keeps them.
-fn kept(
-    alloc: Global,
-    fixed: &Fixed,
-    roles: &Roles,
-    written: Written,
-    updates: &[Update],
-    told: &mut String,
-) -> Result<Written, NoMemory> {
-    let mut draft = written.draft(alloc);
-    make(alloc, fixed, roles, &mut draft, updates, told)?;
-    let written = draft.keep();
-    tell_written(told, &written);
-    Ok(written)
+fn tell_image(told: &mut String, image: &Image) {
+    let Some(plane) = image.target() else {
+        say(told, "no plane ");
+        return;
+    };
+    tell_entry(told, plane.store().best(TABLE, &[2]));
+    match plane.miss_action(TABLE) {
+        Some(call) if call.action == DROP => say(told, "0 "),
+        Some(_) => say(told, "1 "),
+        None => say(told, "no default action "),
+    }
 }
 
 fn told_of_drafts(alloc: Global, message: &[u8], told: &mut String) -> Result<(), NoMemory> {
-    let fixed = Fixed {
+    let start = Start {
         device: 1,
         cpu: 255,
         rows: 16,
-        program: Some(Program {
-            info: info_of(alloc, programs::BRIDGE)?,
-            defaults: List::new(alloc),
-        }),
+        bridge: true,
     };
-    let roles = Roles::open(alloc)?;
-    let Call::Write(request) = read_call(alloc, 1, message)? else {
+    let mut image = Image::open(alloc, &start)?;
+    let Call::Write(request) = read_call(alloc, Method::Write, message)? else {
         return Ok(());
     };
     let updates = request.updates.as_slice();
-    let written = undone(alloc, &fixed, &roles, Written::open(alloc), updates, told)?;
-    let written = kept(alloc, &fixed, &roles, written, updates, told)?;
-    undone(alloc, &fixed, &roles, written, updates, told)?;
+    make(alloc, &mut image, updates, told)?;
+    image.undo();
+    tell_image(told, &image);
+    make(alloc, &mut image, updates, told)?;
+    image.keep(1);
+    tell_image(told, &image);
+    make(alloc, &mut image, updates, told)?;
+    image.undo();
+    tell_image(told, &image);
     Ok(())
 }
 

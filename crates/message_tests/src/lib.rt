@@ -1,15 +1,8 @@
-//! Tests of the messages of P4Runtime and of P4Info, and of the rules and entries that they ask for. What is expected
-//! comes from outside of them.
+//! Tests of the rules of updates and of the entries that they leave. What is expected comes from outside of them.
 #![tactic(auto)]
 
 #[cfg(test)]
-mod answers;
-#[cfg(test)]
-mod calls;
-#[cfg(test)]
 mod drafts;
-#[cfg(test)]
-mod infos;
 #[cfg(test)]
 mod programs;
 #[cfg(test)]

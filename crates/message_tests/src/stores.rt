@@ -3,7 +3,7 @@ use crate::programs;
 use crate::vectors::{Row, run, say, tell};
 use crate::writes::{info_of, made, tell_cause, tell_change};
 use list_types::NoMemory;
-use p4_types::calls::Call;
+use p4_types::calls::{Call, Method};
 use p4_types::messages::Update;
 use p4_types::table::{Change, Entry, EntryChange, Room};
 use p4info_model::P4Info;
@@ -11,7 +11,7 @@ use p4v1_read::read_call;
 use std::alloc::Global;
 use std::test::Fail;
 use table_store::TableStore;
-use write_rules::{ResolveError, resolve};
+use write_rules::resolve;
 
 const LAST_TABLE: u32 = 0x0200_0003;
 
@@ -80,13 +80,13 @@ fn tell_stores(store: &mut TableStore, copy: &TableStore, told: &mut String) {
 
 fn told_of_store(alloc: Global, message: &[u8], told: &mut String) -> Result<(), NoMemory> {
     let info = info_of(alloc, programs::KINDS)?;
-    let Call::Write(request) = read_call(alloc, 1, message)? else {
+    let Call::Write(request) = read_call(alloc, Method::Write, message)? else {
         return Ok(());
     };
     let updates = request.updates.as_slice();
     let mut untold = String::new(alloc);
-    let copy = made(alloc, &info, None, updates, &mut untold)?;
-    let mut store = made(alloc, &info, None, updates, told)?;
+    let copy = made(alloc, &info, None, updates, &mut untold);
+    let mut store = made(alloc, &info, None, updates, told);
     tell_stores(&mut store, &copy, told);
     Ok(())
 }
@@ -111,7 +111,7 @@ fn room(rows: u32, slots: u32, numbers: u64) -> Room {
 }
 
 fn tell_rooms(alloc: Global, info: &P4Info, update: &Update, told: &mut String) {
-    match resolve(alloc, info, None, update) {
+    match resolve(info, None, update) {
         Ok(Change::InsertEntry(change)) => {
             tell_room(alloc, info, &change, room(1, 1, 1), told);
             tell_room(alloc, info, &change, room(0, 1, 1), told);
@@ -119,8 +119,7 @@ fn tell_rooms(alloc: Global, info: &P4Info, update: &Update, told: &mut String) 
             tell_room(alloc, info, &change, room(1, 1, 0), told);
         }
         Ok(_) => say(told, "another change "),
-        Err(ResolveError::Refused(cause)) => tell_cause(told, cause),
-        Err(ResolveError::NoMemory) => say(told, "no memory "),
+        Err(cause) => tell_cause(told, cause),
     }
 }
 
@@ -131,7 +130,7 @@ fn told_of_rooms(
     told: &mut String,
 ) -> Result<(), NoMemory> {
     let info = info_of(alloc, program)?;
-    let Call::Write(request) = read_call(alloc, 1, message)? else {
+    let Call::Write(request) = read_call(alloc, Method::Write, message)? else {
         return Ok(());
     };
     for update in request.updates.as_slice() {

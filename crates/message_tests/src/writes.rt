@@ -1,19 +1,19 @@
 // Updates by their rules, and the entries that keys take once the updates are made.
-ghost use Rattle.std.specs.Prelude.{◌≡◌, ◌<◌, ◌+◌, All, IfOk};
+ghost use Rattle.std.specs.Prelude.{◌≡◌, ◌<◌, ◌+◌, All};
 
 use crate::vectors::{run, say, tell};
 use crate::{programs, write_rows};
-use list_types::NoMemory;
-use p4_types::calls::Call;
+use list_types::{NoMemory, Refusal};
+use p4_types::calls::{Call, Method};
 use p4_types::code::Cause;
 use p4_types::messages::Update;
-use p4_types::table::{Change, Entry, EntryChange, EntryName, Room};
+use p4_types::table::{Change, Entry, EntryAction, EntryChange, EntryName, Room};
 use p4info_model::{InfoError, P4Info, read_info};
 use p4v1_read::read_call;
 use std::alloc::Global;
 use std::test::Fail;
-use table_store::{StoreError, TableStore};
-use write_rules::{ResolveError, resolve};
+use table_store::TableStore;
+use write_rules::resolve;
 
 // A program by its P4Info, and the keys that are looked up in one of its tables.
 struct Program {
@@ -24,18 +24,18 @@ struct Program {
 
 pub(crate) fn tell_cause(told: &mut String, cause: Cause) {
     say(told, "rule ");
-    tell(told, cause.rule);
+    tell(told, cause.rule.number());
     tell(told, cause.code.number());
 }
 
-fn tell_refusal(told: &mut String, error: StoreError) {
+fn tell_refusal(told: &mut String, error: Refusal<Cause>) {
     match error {
-        StoreError::Refused(cause) => tell_cause(told, cause),
-        StoreError::NoMemory => say(told, "no memory "),
+        Refusal::For(cause) => tell_cause(told, cause),
+        Refusal::NoMemory => say(told, "no memory "),
     }
 }
 
-pub(crate) fn tell_change(told: &mut String, made: Result<(), StoreError>) {
+pub(crate) fn tell_change(told: &mut String, made: Result<(), Refusal<Cause>>) {
     match made {
         Ok(_) => say(told, "ok "),
         Err(error) => tell_refusal(told, error),
@@ -51,8 +51,8 @@ fn insert(
     drawn: u64,
     told: &mut String,
 ) -> u64
-    requires below { All (λ entry. entry.seq < 1 + drawn) store.old }
-    ensures below { All (λ entry. entry.seq < 1 + result) store.new }
+    requires below { All (λ entry. entry.seq < 1 + drawn) store.old.entries }
+    ensures below { All (λ entry. entry.seq < 1 + result) store.new.entries }
 {
     let Some(table) = info.table(change.name.table) else {
         say(told, "no table ");
@@ -79,23 +79,17 @@ fn insert(
     }
 }
 
-fn modify(
-    alloc: Global,
-    store: &mut TableStore,
-    change: &EntryChange,
-    drawn: u64,
-    told: &mut String,
-)
-    requires below { All (λ entry. entry.seq < 1 + drawn) store.old }
-    ensures below { All (λ entry. entry.seq < 1 + drawn) store.new }
+fn modify(store: &mut TableStore, change: &EntryChange, drawn: u64, told: &mut String)
+    requires below { All (λ entry. entry.seq < 1 + drawn) store.old.entries }
+    ensures below { All (λ entry. entry.seq < 1 + drawn) store.new.entries }
 {
-    let made = store.modify(alloc, change);
+    let made = store.modify(change);
     tell_change(told, made);
 }
 
 fn delete(store: &mut TableStore, name: &EntryName, drawn: u64, told: &mut String)
-    requires below { All (λ entry. entry.seq < 1 + drawn) store.old }
-    ensures below { All (λ entry. entry.seq < 1 + drawn) store.new }
+    requires below { All (λ entry. entry.seq < 1 + drawn) store.old.entries }
+    ensures below { All (λ entry. entry.seq < 1 + drawn) store.new.entries }
 {
     let made = store.delete(name);
     tell_change(told, made);
@@ -109,13 +103,13 @@ fn change(
     drawn: u64,
     told: &mut String,
 ) -> u64
-    requires below { All (λ entry. entry.seq < 1 + drawn) store.old }
-    ensures below { All (λ entry. entry.seq < 1 + result) store.new }
+    requires below { All (λ entry. entry.seq < 1 + drawn) store.old.entries }
+    ensures below { All (λ entry. entry.seq < 1 + result) store.new.entries }
 {
     match change {
         Change::InsertEntry(change) => insert(alloc, info, store, change, drawn, told),
         Change::ModifyEntry(change) => {
-            modify(alloc, store, change, drawn, told);
+            modify(store, change, drawn, told);
             drawn
         }
         Change::DeleteEntry(name) => {
@@ -137,17 +131,16 @@ fn update(
     update: &Update,
     drawn: u64,
     told: &mut String,
-) -> Result<u64, NoMemory>
-    requires below { All (λ entry. entry.seq < 1 + drawn) store.old }
-    ensures below { IfOk result (λ drawn. All (λ entry. entry.seq < 1 + drawn) store.new) }
+) -> u64
+    requires below { All (λ entry. entry.seq < 1 + drawn) store.old.entries }
+    ensures below { All (λ entry. entry.seq < 1 + result) store.new.entries }
 {
-    match resolve(alloc, info, scope, update) {
-        Ok(change) => Ok(self::change(alloc, info, store, &change, drawn, told)),
-        Err(ResolveError::Refused(cause)) => {
+    match resolve(info, scope, update) {
+        Ok(change) => self::change(alloc, info, store, &change, drawn, told),
+        Err(cause) => {
             tell_cause(told, cause);
-            Ok(drawn)
+            drawn
         }
-        Err(ResolveError::NoMemory) => Err(NoMemory),
     }
 }
 
@@ -158,13 +151,13 @@ pub(crate) fn made(
     scope: Option<&[u32]>,
     updates: &[Update],
     told: &mut String,
-) -> Result<TableStore, NoMemory> {
+) -> TableStore {
     let mut store = TableStore::open(alloc);
     let mut drawn = 0;
     for update in updates {
-        drawn = self::update(alloc, info, scope, &mut store, update, drawn, told)?;
+        drawn = self::update(alloc, info, scope, &mut store, update, drawn, told);
     }
-    Ok(store)
+    store
 }
 
 pub(crate) fn tell_entry(told: &mut String, entry: Option<&Entry>) {
@@ -173,9 +166,21 @@ pub(crate) fn tell_entry(told: &mut String, entry: Option<&Entry>) {
         return;
     };
     tell(told, entry.seq);
-    if let Some(argument) = entry.action.arguments.as_slice().first() {
-        say(told, "to ");
-        tell(told, *argument);
+    match &entry.action {
+        EntryAction::Call(call) => {
+            if let Some(argument) = call.arguments.as_slice().first() {
+                say(told, "to ");
+                tell(told, *argument);
+            }
+        }
+        EntryAction::Member(id) => {
+            say(told, "member ");
+            tell(told, *id);
+        }
+        EntryAction::Group(id) => {
+            say(told, "group ");
+            tell(told, *id);
+        }
     }
 }
 
@@ -197,11 +202,11 @@ fn told_of(
     told: &mut String,
 ) -> Result<(), NoMemory> {
     let info = info_of(alloc, program.info)?;
-    let Call::Write(request) = read_call(alloc, 1, message)? else {
+    let Call::Write(request) = read_call(alloc, Method::Write, message)? else {
         say(told, "no Write ");
         return Ok(());
     };
-    let store = made(alloc, &info, scope, request.updates.as_slice(), told)?;
+    let store = made(alloc, &info, scope, request.updates.as_slice(), told);
     for key in program.keys {
         tell_entry(told, store.best(program.table, key));
     }

@@ -6,6 +6,29 @@ use crate::messages::{
 };
 use list_types::{ByteList, List};
 
+/// A method of P4Runtime, of which the stream channel brings messages one by one. Its number on a tape is the
+/// variant's value.
+#[derive(Clone, Copy)]
+pub enum Method {
+    Write = 1,
+    Read = 2,
+    SetForwardingPipelineConfig = 3,
+    GetForwardingPipelineConfig = 4,
+    StreamChannel = 5,
+    Capabilities = 6,
+}
+
+/// How the updates of a Write stand together (P4Runtime 1.3.0, "Batching and Ordering of Updates").
+#[derive(Clone, Copy)]
+pub enum Atomicity {
+    /// Each by itself.
+    ContinueOnError,
+    /// All or none.
+    RollbackOnError,
+    /// All or none, and no packet sees a part.
+    DataplaneAtomic,
+}
+
 /// A call of a controller.
 #[derive(Drop)]
 pub enum Call {
@@ -16,8 +39,8 @@ pub enum Call {
     /// A message of the stream channel, which may have no member.
     Stream(Option<StreamMessageRequest>),
     Capabilities,
-    /// A message that is not read, with its method: 1 Write, 2 Read, 3 Set, 4 Get, 5 Stream, 6 Capabilities.
-    Unreadable(u8),
+    /// A message that is not read.
+    Unreadable(Method),
     /// The end of a controller's stream.
     Leave,
 }

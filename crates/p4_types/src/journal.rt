@@ -25,7 +25,7 @@ pub struct Step {
 #[derive(Drop)]
 pub struct Entry {
     pub lane: u16,
-    pub call: u32,
+    pub call: u64,
     pub steps: List<Step>,
     pub reply: Reply,
 }

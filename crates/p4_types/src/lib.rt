@@ -4,10 +4,13 @@
 pub mod calls;
 pub mod code;
 pub mod events;
+pub mod ids;
 pub mod info;
 pub mod journal;
+pub mod keys;
 pub mod messages;
 pub mod p4info;
 pub mod records;
+pub mod shared;
 pub mod table;
 pub mod tape;

@@ -1,4 +1,5 @@
 //! What became of a packet.
+use crate::messages::{P4Data, PacketIn};
 use crate::tape::Who;
 use list_types::{ByteList, List};
 
@@ -9,21 +10,55 @@ pub enum HitMark {
     Cell { slot: u32 },
 }
 
+/// Why a packet was dropped. Its number in a report is the variant's value.
+#[derive(Clone, Copy)]
+pub enum DropReason {
+    ByPipeline = 1,
+    WithoutPipeline = 2,
+    /// More than 10,240 bytes would leave.
+    TooLong = 3,
+    /// It is shorter than the controller's header.
+    TooShortForController = 4,
+}
+
+/// Whether a packet was sent.
+#[derive(Clone, Copy)]
+pub enum Fate {
+    Sent,
+    Dropped(DropReason),
+}
+
+/// What leaves at a port.
+#[derive(Drop)]
+pub struct Output {
+    pub port: u16,
+    pub bytes: ByteList,
+}
+
+/// A packet to a controller's lane, or to none.
+#[derive(Drop)]
+pub struct CpuMessage {
+    pub lane: Option<u16>,
+    pub packet: PacketIn,
+}
+
+/// What a packet gives to a digest: its id, and the data.
+#[derive(Drop)]
+pub struct Sample {
+    pub digest: u32,
+    pub content: P4Data,
+}
+
 /// The `index`th packet of a lane, from 1, after `steps` steps.
 #[derive(Drop)]
 pub struct Record {
     pub who: Who,
     pub index: u32,
     pub steps: u64,
-    /// 0 sent; dropped 1 by the pipeline, 2 without a pipeline, 3 as too long, 4 as too short for
-    /// the controller's header.
-    pub fate: u8,
-    /// What left, by port.
-    pub outputs: List<(u16, ByteList)>,
-    /// What went to a controller's lane, or to none.
-    pub cpu: List<(Option<u16>, ByteList)>,
-    /// The digest's id and its data.
-    pub digest: Option<(u32, ByteList)>,
+    pub fate: Fate,
+    pub outputs: List<Output>,
+    pub cpu: List<CpuMessage>,
+    pub digest: Option<Sample>,
     /// In the order in which they came.
     pub hits: List<HitMark>,
 }

@@ -1,36 +1,45 @@
-//! The entries of a table, and the changes that updates make.
-use list_types::List;
+//! The entries of a table, and the changes that updates make. They are values that take no memory.
+ghost use Rattle.std.specs.Prelude.{◌≡◌};
 
-/// What an entry asks of one field of its table's key.
-#[derive(Clone, Copy)]
-pub enum FieldTest {
-    /// The field is left out of the match: every value holds.
-    Any,
-    /// An exact or an optional field: the value.
-    Equal(u128),
-    /// A longest-prefix field: the first `length` of the `width` bits are those of `value`.
-    Prefix {
-        value: u128,
-        length: u32,
-        width: u32,
-    },
-    /// A ternary field: the bits of `mask` are those of `value`.
-    Masked {
-        value: u128,
-        mask: u128,
-    },
-    /// A range field: `low` to `high`, both included.
-    Between {
-        low: u128,
-        high: u128,
-    },
-}
+use crate::keys::{Arguments, Tests};
 
 /// An action with its arguments, in the order of the action's parameters.
 #[derive(Drop)]
 pub struct ActionCall {
     pub action: u32,
-    pub arguments: List<u128>,
+    pub arguments: Arguments,
+}
+
+impl ActionCall {
+    pub fn copy(&self) -> ActionCall
+        ensures { result ≡ self.now }
+    {
+        ActionCall {
+            action: self.action,
+            arguments: self.arguments.copy(),
+        }
+    }
+}
+
+/// What an entry does where it is hit: it runs an action, or leaves the choice to a member or a group of its table's
+/// action profile, by its id.
+#[derive(Drop)]
+pub enum EntryAction {
+    Call(ActionCall),
+    Member(u32),
+    Group(u32),
+}
+
+impl EntryAction {
+    pub fn copy(&self) -> EntryAction
+        ensures { result ≡ self.now }
+    {
+        match self {
+            EntryAction::Call(call) => EntryAction::Call(call.copy()),
+            EntryAction::Member(id) => EntryAction::Member(*id),
+            EntryAction::Group(id) => EntryAction::Group(*id),
+        }
+    }
 }
 
 /// What tells an entry from the others: its table, its match (a test for each field of the table's key, in
@@ -38,8 +47,20 @@ pub struct ActionCall {
 #[derive(Drop)]
 pub struct EntryName {
     pub table: u32,
-    pub tests: List<FieldTest>,
+    pub tests: Tests,
     pub priority: i32,
+}
+
+impl EntryName {
+    pub fn copy(&self) -> EntryName
+        ensures { result ≡ self.now }
+    {
+        EntryName {
+            table: self.table,
+            tests: self.tests.copy(),
+            priority: self.priority,
+        }
+    }
 }
 
 /// An entry of a table. Of two that are equal otherwise the one of the lower sequence number wins.
@@ -48,7 +69,7 @@ pub struct Entry {
     pub name: EntryName,
     pub seq: u64,
     pub controller_metadata: u64,
-    pub action: ActionCall,
+    pub action: EntryAction,
     /// The slot of its direct counter.
     pub slot: Option<u32>,
 }
@@ -65,7 +86,7 @@ pub struct DefaultAction {
 pub struct EntryChange {
     pub name: EntryName,
     pub controller_metadata: u64,
-    pub action: ActionCall,
+    pub action: EntryAction,
 }
 
 /// What an update does to what it names (P4Runtime 1.3.0, "Update").

@@ -1,4 +1,5 @@
 //! The records of a tape.
+use crate::calls::Method;
 use list_types::ByteList;
 
 /// A controller's lane or a worker's.
@@ -13,12 +14,10 @@ pub enum Who {
 /// One record of a tape, the end record left out.
 #[derive(Drop)]
 pub enum TapeRecord {
-    /// A call of a controller: `method` is 1 Write, 2 Read, 3 SetForwardingPipelineConfig,
-    /// 4 GetForwardingPipelineConfig, 5 a message of the stream channel, 6 Capabilities;
-    /// `message` is the protobuf message, at most 8 MiB.
+    /// A call of a controller, with its protobuf message of at most 8 MiB.
     Call {
         lane: u16,
-        method: u8,
+        method: Method,
         message: ByteList,
     },
     /// A packet of at most 9,216 bytes that a worker gets from a port, 0 to 510.

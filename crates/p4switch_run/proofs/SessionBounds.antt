@@ -7,7 +7,7 @@ use Rattle.p4_types.specs.declared.journal.Entry.{Entry}
 use Rattle.p4_types.specs.declared.records.Record.{Record}
 use Rattle.p4_types.specs.declared.tape.TapeRecord.{TapeRecord}
 use Rattle.p4_types.specs.declared.tape.TapeRecord.TheVariants.{Call, Packet, Leave}
-use Rattle.switch_spec.specs.Answer.{LaneCall, Asks, Leaves}
+use Rattle.switch_spec.specs.Answer.{LaneCall, Asks, Leaves, no_figures}
 use Rattle.switch_spec.specs.Play.{Played, Turn, Answers, Refuses, Carries, call_item, item_of, begun, next_call, play}
 use Rattle.switch_spec.proofs.Answers.{answer_sound}
 use Rattle.p4switch_run.specs.Session.{State, played_of, PlaysCall, Plays, IsPlayed, IsWithin, HasRoom}
@@ -16,7 +16,7 @@ use Rattle.p4switch_run.specs.Session.{State, played_of, PlaysCall, Plays, IsPla
 within_play : (n : ℕ) (p : Played) (turn : Turn) → IsWithin n p → IsWithin (n + 1) (play p turn)
 unfolding play
 within_play n p (Answers lane call) h =
-    let sound = answer_sound p.control lane (next_call lane p) call in
+    let sound = answer_sound p.control no_figures lane (next_call lane p) call in
     record {
       steps = omega (arith, h.steps, sound.few_steps);
       calls = omega (arith, h.calls, length-append {A = Entry});

@@ -3,16 +3,16 @@ use Rattle.std.specs.Prelude.{◌≡◌, ℕ, ◌+◌, ◌-◌, ◌*◌, ◌^◌
 use Rattle.std.specs.List.{filter_map}
 use Rattle.p4_types.specs.declared.calls.Call as calls
 use Rattle.p4_types.specs.declared.calls.Reply.{Reply}
-use Rattle.p4_types.specs.declared.events.Event.{Event}
 use Rattle.p4_types.specs.declared.events.Start.{Start}
 use Rattle.p4_types.specs.declared.journal.Entry.{Entry}
 use Rattle.p4_types.specs.declared.journal.Step.{Step}
 use Rattle.p4_types.specs.declared.records.Record.{Record}
 use Rattle.p4_types.specs.declared.tape.TapeRecord.{TapeRecord}
 use Rattle.p4_types.specs.declared.tape.TapeRecord.TheVariants.{Call, Packet, Leave}
-use Rattle.ctl_core.specs.Core.{Core, Handled}
-use Rattle.switch_spec.specs.Answer.{LaneCall, Asks, Leaves, answer_to}
-use Rattle.switch_spec.specs.Control.{opened, applied}
+use Rattle.ctl_core.specs.Core.{Core, Handled, raised}
+use Rattle.plane_spec.specs.Config.{Event}
+use Rattle.plane_spec.specs.Planes.{opened, applied}
+use Rattle.switch_spec.specs.Answer.{LaneCall, Asks, Leaves, answer_to, no_figures}
 use Rattle.switch_spec.specs.History.{step_of}
 use Rattle.switch_spec.specs.Play.{Played, Turn, Answers, Refuses, Carries, items_of, play, played}
 use Rattle.p4switch_run.specs.Tallies.{Tallies}
@@ -38,9 +38,9 @@ pub record IsSession (s : State) : Type 0 where
 
 -- a call of a lane was handled, with this reply; it is not in the journal yet
 pub record IsHandled (lane : ℕ) (call : calls.Call) (reply : Reply) (old new : State) : Type 0 where
-  pub handled : Handled old.core.control old.core.steps old.events (answer_to old.core.control lane (slice_index old.core.calls lane + 1) call) reply new.core.control new.events
+  pub handled : Handled old.core.control old.core.steps old.events (answer_to old.core.control no_figures lane (raised (slice_index old.core.calls lane) 1) call) reply new.core.control new.events
   pub steps : new.core.steps ≡ reply.steps
-  pub calls : new.core.calls ≡ set old.core.calls lane (slice_index old.core.calls lane + 1)
+  pub calls : new.core.calls ≡ set old.core.calls lane (raised (slice_index old.core.calls lane) 1)
   pub agrees : applied (opened new.start) new.events ≡ new.core.control
   pub journal : new.journal ≡ old.journal
   pub records : new.records ≡ old.records

@@ -1,28 +1,29 @@
 //! The events of a run, in their order.
 ghost use Rattle.std.specs.Prelude.{◌≡◌, ◌≤◌, [], ◌∷◌, ◌++◌, length, IfOk, OnOk, drop};
 ghost use Rattle.std.specs.List.{filter_map};
-ghost use Rattle.switch_spec.specs.Control.{opened, applied};
+ghost use Rattle.plane_spec.specs.Planes.{opened};
 ghost use Rattle.switch_spec.specs.History.{step_of};
 
 use ctl_core::Press;
 use list_types::{List, NoMemory};
 use p4_types::events::{Event, Start};
 use p4_types::journal::{Step, StepKind};
+use plane_state::Config;
 use std::alloc::Global;
 
 /// The events that were handed on since the start.
 #[derive(Drop)]
 pub struct Published {
     start: Start,
-    events: Vec<Event>,
+    events: Vec<Event<Config>>,
 }
 
 impl Press for Published {
     ghost given = { λ p. p.events.items };
 
-    ghost state = { λ p. applied (opened p.start) p.events.items };
+    ghost opening = { λ p. opened p.start };
 
-    fn push(&mut self, events: List<Event>) -> Result<(), (List<Event>, NoMemory)> {
+    fn push(&mut self, events: List<Event<Config>>) -> Result<(), (List<Event<Config>>, NoMemory)> {
         let mut events = events.into_vec();
         match self.events.append(&mut events) {
             Ok(()) => Ok(()),
@@ -32,7 +33,7 @@ impl Press for Published {
 }
 
 // The step that an event is, if it is one.
-fn step_of(event: &Event) -> Option<Step>
+fn step_of(event: &Event<Config>) -> Option<Step>
     ensures { result ≡ step_of event.now }
 {
     match event {
@@ -51,6 +52,14 @@ fn step_of(event: &Event) -> Option<Step>
         Event::Batch { changes, .. } => Some(Step {
             kind: StepKind::Batch,
             changes: changes.len() as u64,
+        }),
+        Event::Save { .. } => Some(Step {
+            kind: StepKind::Save,
+            changes: 0,
+        }),
+        Event::Commit { .. } => Some(Step {
+            kind: StepKind::Commit,
+            changes: 0,
         }),
         Event::Close => None,
     }
@@ -86,7 +95,7 @@ impl Published {
     }
 }
 
-fn push_step(steps: &mut List<Step>, event: &Event) -> Result<(), NoMemory>
+fn push_step(steps: &mut List<Step>, event: &Event<Config>) -> Result<(), NoMemory>
     ensures { OnOk result (steps.new ≡ steps.old ++ filter_map step_of (event.now ∷ [])) }
 {
     if let Some(step) = step_of(event) {

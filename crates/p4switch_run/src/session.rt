@@ -1,8 +1,7 @@
 //! A run in lockstep: calls are answered and packets carried, one after another.
-ghost use Rattle.std.specs.Prelude.{◌≡◌, ◌<◌, ◌≤◌, ◌+◌, ◌++◌, [], ◌∷◌, length, All, OnOk, IfOk};
+ghost use Rattle.std.specs.Prelude.{◌≡◌, ◌<◌, ◌≤◌, ◌+◌, ◌++◌, [], ◌∷◌, length, map, All, OnOk, IfOk};
 ghost use Rattle.p4v1_read.specs.Calls.{call_of};
-ghost use Rattle.switch_spec.specs.Control.{opened};
-ghost use Rattle.switch_spec.specs.Meaning.{meaning, record_of};
+ghost use Rattle.switch_spec.specs.Meaning.{carried, to_lane};
 ghost use Rattle.switch_spec.specs.Play.{begun, next_packet, played_report};
 ghost use Rattle.switch_spec.specs.Tape.{IsRecord};
 ghost use Rattle.p4switch_run.specs.Session.{played_of, IsSession, IsHandled, IsEntered, PlaysCall, Plays, IsPlayed, HasRoom};
@@ -12,10 +11,11 @@ use crate::journal::Packets;
 use crate::published::Published;
 use ctl_core::Control;
 use list_types::{List, NoMemory};
-use p4_types::calls::{Call, Reply};
+use p4_types::calls::{Call, Method, Reply};
 use p4_types::events::Start;
 use p4_types::journal::{Entry, Report};
-use p4_types::records::Record;
+use p4_types::messages::PacketIn;
+use p4_types::records::{CpuMessage, Record};
 use p4_types::tape::{TapeRecord, Who};
 use p4v1_read::read_call;
 use std::alloc::Global;
@@ -36,6 +36,21 @@ impl Model for Session {
     ghost Value = { State };
 
     ghost view = { λ s. record { core = s.control; start = s.published.start; events = s.published.events.items; journal = s.journal; records = s.packets } };
+}
+
+// Packets for a controller, which go to this lane or to none.
+fn addressed(
+    alloc: Global,
+    lane: Option<u16>,
+    packets: List<PacketIn>,
+) -> Result<List<CpuMessage>, NoMemory>
+    ensures { IfOk result (λ messages. messages ≡ map (to_lane lane) packets) }
+{
+    let mut messages = List::new(alloc);
+    for packet in packets.into_vec() {
+        messages.push(CpuMessage { lane, packet })?;
+    }
+    Ok(messages)
 }
 
 impl Session {
@@ -72,7 +87,7 @@ impl Session {
     }
 
     // The reply to a lane's next call.
-    fn reply(&mut self, alloc: Global, lane: u16, method: u8, message: &[u8]) -> Reply
+    fn reply(&mut self, alloc: Global, lane: u16, method: Method, message: &[u8]) -> Reply
         requires lane { lane < 32 }
         requires room { HasRoom self.old }
         requires session { IsSession self.old }
@@ -113,7 +128,7 @@ impl Session {
         &mut self,
         alloc: Global,
         lane: u16,
-        method: u8,
+        method: Method,
         message: &[u8],
     ) -> Result<(), NoMemory>
         requires lane { lane < 32 }
@@ -150,17 +165,18 @@ impl Session {
     ) -> Result<Record, NoMemory>
         requires lane { lane < 16 }
         requires room { HasRoom self.now }
-        ensures { IfOk result (λ r. r ≡ record_of (Who.Worker lane) (next_packet lane (played_of self.now)) self.now.core.steps (meaning self.now.core.control port packet.now)) }
+        ensures { IfOk result (λ r. r ≡ carried (Who.Worker lane) (next_packet lane (played_of self.now)) self.now.core.steps self.now.core.control port packet.now) }
     {
-        let verdict = self.control.carry(alloc, port, packet)?;
+        let image = self.control.image();
+        let verdict = pkt_worker::run(alloc, image.active(), image.cpu(), port, packet)?;
         Ok(Record {
             who: Who::Worker(lane),
             index: self.packets.count_of(lane) + 1,
-            steps: self.control.steps(),
+            steps: image.steps(),
             fate: verdict.fate,
             outputs: verdict.outputs,
-            cpu: verdict.cpu,
-            digest: None,
+            cpu: addressed(alloc, image.roles().primary(0), verdict.packet_ins)?,
+            digest: verdict.sample,
             hits: verdict.hits,
         })
     }

@@ -5,32 +5,30 @@ ghost use Rattle.wire_messages.specs.Answers.{ReadsInMemory};
 
 use crate::reading;
 use list_types::NoMemory;
-use p4_types::calls::Call;
+use p4_types::calls::{Call, Method};
 use std::alloc::Global;
 use wire_messages::ReadError;
 
 #[tactic(auto, unfolding(crate::specs::Calls::call_by))]
-fn call(alloc: Global, method: u8, bytes: &[u8]) -> Result<Call, ReadError>
+fn call(alloc: Global, method: Method, bytes: &[u8]) -> Result<Call, ReadError>
     ensures { ReadsInMemory (λ x. x) result (call_by method bytes.now) }
 {
     match method {
-        1 => Ok(Call::Write(reading::from_bytes(alloc, bytes)?)),
-        2 => Ok(Call::Read(reading::from_bytes(alloc, bytes)?)),
-        3 => Ok(Call::Set(reading::from_bytes(alloc, bytes)?)),
-        4 => Ok(Call::Get(reading::from_bytes(alloc, bytes)?)),
-        5 => Ok(Call::Stream(reading::from_bytes(alloc, bytes)?)),
-        6 => {
+        Method::Write => Ok(Call::Write(reading::from_bytes(alloc, bytes)?)),
+        Method::Read => Ok(Call::Read(reading::from_bytes(alloc, bytes)?)),
+        Method::SetForwardingPipelineConfig => Ok(Call::Set(reading::from_bytes(alloc, bytes)?)),
+        Method::GetForwardingPipelineConfig => Ok(Call::Get(reading::from_bytes(alloc, bytes)?)),
+        Method::StreamChannel => Ok(Call::Stream(reading::from_bytes(alloc, bytes)?)),
+        Method::Capabilities => {
             reading::fields(alloc, bytes)?;
             Ok(Call::Capabilities)
         }
-        _ => Err(ReadError::Unreadable),
     }
 }
 
-/// The call that a client's message is: 1 Write, 2 Read, 3 Set, 4 Get, 5 a message of the stream channel,
-/// 6 Capabilities. A message that is not read, or of another method, is `Call::Unreadable`. It copies the
+/// The call that a client's message is, by its method; one that is not read is `Call::Unreadable`. It copies the
 /// bytes that the call keeps.
-pub fn read_call(alloc: Global, method: u8, bytes: &[u8]) -> Result<Call, NoMemory>
+pub fn read_call(alloc: Global, method: Method, bytes: &[u8]) -> Result<Call, NoMemory>
     ensures { IfOk result (λ call. call ≡ call_of method bytes.now) }
 {
     match call(alloc, method, bytes) {

@@ -6,10 +6,7 @@ use Rattle.std.proofs.Math.Nat.{pow-suc}
 use Rattle.std.specs.Int.{bit_at}
 use Rattle.std.specs.Int.Digits.{number_from_digits_after, AllBelowBase}
 use Rattle.canon_bytes.specs.Bits.{byte_bits}
-
-abbrev pub low : ℕ → ℕ → List ℕ
-low zero n = []
-low (suc k) n = bit_at n k ∷ low k n
+use Rattle.pkt_bits.specs.Field.{number_bits as low}
 
 pub byte_low : (b : ℕ) → byte_bits b ≡ low 8 b
 byte_low b = refl

@@ -1,14 +1,16 @@
 -- Runs of the bits of bytes: those within one byte, and one run after another.
 use Rattle.std.proofs.Common.{◌≡◌, ℕ, zero, suc, ◌+◌, ◌-◌, ◌*◌, ◌/◌, ◌%◌, ◌^◌, ◌<◌, ◌≤◌, List, [], ◌∷◌, ◌++◌, length, get_or, set, take, drop, refl, sym, ap, ◌∙◌, arith, lit<, drop-drop}
-use Rattle.std.proofs.lemmas.List.{drop_more, take-append-le, drop-append-le, length-drop, length-take-le, take-set, drop-set-lt, drop-take, take-take, length-take, get_or-set_same, length-set}
+use Rattle.std.proofs.lemmas.List.{take-append-drop, drop_more, take-append-le, drop-append-le, length-drop, length-take-le, take-set, drop-set-lt, drop-take, take-take, length-take, get_or-set_same, length-set}
 use Rattle.std.proofs.lemmas.Nat.{shr_high, mod_low, shr_split, shr_below, mul-add-lt, pow-add, mod_below, pow_pos, one_shl, and_mask, or_shifted, shl_whole, shr-shr}
 use Rattle.std.proofs.lemmas.Int.Digits.{number_after_append, number_lt}
 use Rattle.std.proofs.Math.Seq.{drop-append-add, take-append-add, take-add}
 use Rattle.std.specs.Int.Bits.{bit_and, bit_or}
+use Rattle.std.specs.List.{splice}
 use Rattle.std.specs.Int.Digits.{number_from_digits_after, AllBelowBase}
 use Rattle.canon_bytes.specs.Bits.{bits, num}
 use Rattle.pkt_bits.specs.Field.{field, SameOutside}
-use Rattle.pkt_bits.proofs.Low.{low, drop-low, take-low, number-low, low-cat, length-low, below-low, below-append, below-drop, below-take, number_behind}
+use Rattle.pkt_bits.specs.Field.{number_bits as low}
+use Rattle.pkt_bits.proofs.Low.{drop-low, take-low, number-low, low-cat, length-low, below-low, below-append, below-drop, below-take, number_behind}
 use Rattle.std.proofs.Math.Nat.{mul_comm, mod-eq_of_lt, div-eq_of_lt, pow-le-pow_right}
 
 -- ---- bits of bytes
@@ -320,3 +322,37 @@ same_start bytes bit width = let none : width - width ≡ 0 = omega arith in rw 
 
 pub value_start : (value width : ℕ) → value < 2 ^ width → value / 2 ^ width ≡ 0
 value_start value width fits = div-eq_of_lt fits
+
+-- ---- a field as a part of the list of bits
+
+-- bits are the lowest bits of the number that they spell
+low-number : (xs : List ℕ) → AllBelowBase 2 xs → low (length xs) (number_from_digits_after 2 0 xs) ≡ xs
+low-number [] p = refl
+low-number (x ∷ xs) p =
+    let k = length xs in
+    let n = number_from_digits_after 2 0 xs in
+    let small : n < 2 ^ k = number_lt 2 xs p.1 in
+    let alone : 0 * 2 + x ≡ x = omega arith in
+    let whole : number_from_digits_after 2 0 (x ∷ xs) ≡ x * 2 ^ k + n = number_behind (0 * 2 + x) xs ∙ ap (λ y. y * 2 ^ k + n) alone in
+    let top : (x * 2 ^ k + n) / 2 ^ k % 2 ≡ x = ap (λ y. y % 2) (shr_high x k n small) ∙ mod-eq_of_lt p.0 in
+    let rest : low k (x * 2 ^ k + n) ≡ xs = low-cat k k x n (omega arith) ∙ low-number xs p.1 in
+    ap (low (suc k)) whole ∙ ap (λ y. y ∷ low k (x * 2 ^ k + n)) top ∙ ap (λ y. x ∷ y) rest
+
+field_bits : (bytes : List ℕ) (bit width value : ℕ) → bit + width ≤ 8 * length bytes → field bytes bit width ≡ value → take width (drop bit (bits bytes)) ≡ low width value
+unfolding field num
+field_bits bytes bit width value within is =
+    let xs = take width (drop bit (bits bytes)) in
+    let long : length xs ≡ width = length-take-le width (drop bit (bits bytes)) (omega (arith, length-drop bit (bits bytes), length-bits bytes)) in
+    let below : AllBelowBase 2 xs = below-take width (drop bit (bits bytes)) (below-drop bit (bits bytes) (below_bits bytes)) in
+    sym (low-number xs below) ∙ ap (λ n. low n (number_from_digits_after 2 0 xs)) long ∙ ap (low width) is
+
+-- a number that is put stands in the place of the field's bits
+pub put_spliced : (old new : List ℕ) (bit width value : ℕ) → bit + width ≤ 8 * length old → field new bit width ≡ value → SameOutside old new bit width
+    → bits new ≡ splice (bits old) bit (bit + width) (low width value)
+put_spliced old new bit width value within is same =
+    let inside : bit + width ≤ 8 * length new = omega (arith, within, same.as_long) in
+    sym (take-append-drop bit (bits new)) ∙ ap (λ x. x ++ drop bit (bits new)) same.before
+    ∙ ap (λ x. take bit (bits old) ++ x)
+    (sym (take-append-drop width (drop bit (bits new)))
+    ∙ ap (λ x. x ++ drop width (drop bit (bits new))) (field_bits new bit width value inside is)
+    ∙ ap (λ x. low width value ++ x) (drop-drop width bit (bits new) ∙ same.after))

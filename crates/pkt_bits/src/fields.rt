@@ -1,6 +1,8 @@
 //! Reading and writing a field.
 ghost use Rattle.std.specs.Prelude.{◌≡◌, ◌+◌, ◌*◌, ◌^◌, ◌<◌, ◌≤◌, length};
-ghost use Rattle.pkt_bits.specs.Field.{field, SameOutside};
+ghost use Rattle.std.specs.List.{splice};
+ghost use Rattle.canon_bytes.specs.Bits.{bits};
+ghost use Rattle.pkt_bits.specs.Field.{field, SameOutside, number_bits};
 
 use crate::chunk::{chunk, with_chunk};
 
@@ -33,6 +35,7 @@ pub fn put(bytes: &mut [u8], bit: usize, width: u32, value: u128)
     requires fits { value < 2 ^ width }
     ensures number { field bytes.new bit width ≡ value }
     ensures others { SameOutside bytes.old bytes.new bit width }
+    ensures spliced { bits bytes.new ≡ splice (bits bytes.old) bit (bit + width) (number_bits width value) }
 {
     let mut place = bit / 8;
     let mut offset = (bit % 8) as u32;

@@ -6,3 +6,4 @@ pub mod Soundness
 pub mod Primaries
 pub mod WorkedRuns
 pub mod Settling
+pub mod Undoing

@@ -7,6 +7,7 @@ use Rattle.role_arbiter.specs.declared.sessions.Session.{Session}
 use Rattle.role_arbiter.specs.declared.sessions.NamedRole.{NamedRole}
 use Rattle.p4_types.specs.declared.messages.Uint128.{Uint128}
 use Rattle.role_arbiter.specs.Arbitration.{has_session, is_named, lacks_session, lacks_role, with_session, replaced, inserted, received, greater}
+use Rattle.role_arbiter.specs.Undo.{with_greatest}
 
 -- a session of this caller
 abbrev pub of_caller : ℕ → Session → Bool
@@ -115,11 +116,28 @@ is_within n len h = grind (arith, nat_tests)
 is_past : (n len : ℕ) → len ≤ n → ltb n len ≡ false
 is_past n len h = grind (arith, nat_tests)
 
+-- a session takes the place of its caller's
+pub replaced_where : (sessions : List Session) (new : Session) (i : ℕ) → position (of_caller new.caller) sessions ≡ Some i → replaced sessions new ≡ set sessions i new
+replaced_where sessions new i e =
+    let at = at_place (of_caller new.caller) sessions i e in
+    replaced_at sessions new at.1 ∙ ap (λ k. set sessions k new) (sym at.0)
+
+replaced_nowhere_head : (session new : Session) (rest : List Session) (n m : ℕ) (b : Bool) → m ≡ suc n → (length rest ≤ n → replaced rest new ≡ rest) → suc (length rest) ≤ cond (not b) m 0 → cond b (new ∷ rest) (session ∷ replaced rest new) ≡ session ∷ rest
+replaced_nowhere_head session new rest n m true e h past = absurd (omega arith)
+replaced_nowhere_head session new rest n m false e h past = ap (λ l. session ∷ l) (h (omega arith))
+
+replaced_past : (sessions : List Session) (new : Session) → length sessions ≤ position_or_len (of_caller new.caller) sessions → replaced sessions new ≡ sessions
+replaced_past [] new past = refl
+replaced_past (session ∷ rest) new past = replaced_nowhere_head session new rest (position_or_len (of_caller new.caller) rest) _ (of_caller new.caller session) (omega arith) (replaced_past rest new) past
+
+pub replaced_nowhere : (sessions : List Session) (new : Session) → position (of_caller new.caller) sessions ≡ None → replaced sessions new ≡ sessions
+replaced_nowhere sessions new e = replaced_past sessions new (at_no_place (of_caller new.caller) sessions e)
+
 -- a caller that has a session
 pub put_at : (sessions : List Session) (new : Session) (i : ℕ) → position (of_caller new.caller) sessions ≡ Some i → with_session sessions new ≡ set sessions i new
 put_at sessions new i e =
     let at = at_place (of_caller new.caller) sessions i e in
-    with_has _ _ _ (any_by_place (of_caller new.caller) sessions ∙ is_within _ _ at.1) ∙ replaced_at sessions new at.1 ∙ ap (λ k. set sessions k new) (sym at.0)
+    with_has _ _ _ (any_by_place (of_caller new.caller) sessions ∙ is_within _ _ at.1) ∙ replaced_where sessions new i e
 
 -- a caller that has none
 pub put_new : (sessions : List Session) (new : Session) → position (of_caller new.caller) sessions ≡ None → with_session sessions new ≡ inserted sessions new
@@ -142,6 +160,36 @@ receive_at named role id i d e =
 
 pub receive_new : (named : List NamedRole) (role : ℕ) (id : Uint128) → position (of_role role) named ≡ None → received named role id ≡ named ++ record { role = role; greatest = id } ∷ []
 receive_new named role id e = received_end named role id (at_no_place (of_role role) named e)
+
+-- a role that was named has this as its greatest election id
+abbrev given : NamedRole → Uint128 → NamedRole
+given known id = record { role = known.role; greatest = id }
+
+given_head : (known d : NamedRole) (rest : List NamedRole) (role : ℕ) (id : Uint128) (n m : ℕ) (b : Bool) → m ≡ suc n → (n < length rest → with_greatest rest role id ≡ set rest n (given (get_or rest n d) id)) → cond (not b) m 0 < suc (length rest)
+    → cond b (given known id ∷ rest) (known ∷ with_greatest rest role id) ≡ set (known ∷ rest) (cond (not b) m 0) (given (get_or (known ∷ rest) (cond (not b) m 0) d) id)
+given_head known d rest role id n m true e h within = refl
+given_head known d rest role id n m false e h within = rw e (ap (λ l. known ∷ l) (h (omega arith)))
+
+given_at : (named : List NamedRole) (role : ℕ) (id : Uint128) (d : NamedRole) → position_or_len (of_role role) named < length named
+    → with_greatest named role id ≡ set named (position_or_len (of_role role) named) (given (get_or named (position_or_len (of_role role) named) d) id)
+given_at [] role id d within = absurd (omega arith)
+given_at (known ∷ rest) role id d within = given_head known d rest role id (position_or_len (of_role role) rest) _ (of_role role known) (omega arith) (given_at rest role id d) within
+
+pub greatest_where : (named : List NamedRole) (role : ℕ) (id : Uint128) (i : ℕ) (d : NamedRole) → position (of_role role) named ≡ Some i → with_greatest named role id ≡ set named i (given (get_or named i d) id)
+greatest_where named role id i d e =
+    let at = at_place (of_role role) named i e in
+    given_at named role id d at.1 ∙ ap (λ k. set named k (given (get_or named k d) id)) (sym at.0)
+
+given_nowhere_head : (known : NamedRole) (rest : List NamedRole) (role : ℕ) (id : Uint128) (n m : ℕ) (b : Bool) → m ≡ suc n → (length rest ≤ n → with_greatest rest role id ≡ rest) → suc (length rest) ≤ cond (not b) m 0 → cond b (given known id ∷ rest) (known ∷ with_greatest rest role id) ≡ known ∷ rest
+given_nowhere_head known rest role id n m true e h past = absurd (omega arith)
+given_nowhere_head known rest role id n m false e h past = ap (λ l. known ∷ l) (h (omega arith))
+
+given_past : (named : List NamedRole) (role : ℕ) (id : Uint128) → length named ≤ position_or_len (of_role role) named → with_greatest named role id ≡ named
+given_past [] role id past = refl
+given_past (known ∷ rest) role id past = given_nowhere_head known rest role id (position_or_len (of_role role) rest) _ (of_role role known) (omega arith) (given_past rest role id) past
+
+pub greatest_nowhere : (named : List NamedRole) (role : ℕ) (id : Uint128) → position (of_role role) named ≡ None → with_greatest named role id ≡ named
+greatest_nowhere named role id e = given_past named role id (at_no_place (of_role role) named e)
 
 pub inserted_by_place : (sessions : List Session) (new : Session) (i : ℕ) → i ≡ position_or_len (above new.caller) sessions → inserted sessions new ≡ insert sessions i new
 inserted_by_place sessions new i e = inserted_at sessions new ∙ ap (λ k. insert sessions k new) (sym e)

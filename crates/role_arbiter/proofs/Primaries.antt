@@ -51,7 +51,7 @@ bears_not : (role : ℕ) (id : Uint128) (a b : Session) (t : Bool) → t ≡ bea
 bears_not role id a b false e own is = refl
 bears_not role id a b true e own is = absurd (never_both role id a b own is (sym e))
 
-none_found_head : {X : Type 0} (b : Bool) (x : X) (others : Option X) → b ≡ false → others ≡ None → cond b (Some x) others ≡ None
+pub none_found_head : {X : Type 0} (b : Bool) (x : X) (others : Option X) → b ≡ false → others ≡ None → cond b (Some x) others ≡ None
 none_found_head false x others e h = h
 none_found_head true x others e h = absurd (false≢true (sym e))
 
@@ -65,7 +65,7 @@ none_behind role id test bearer [] is own = refl
 none_behind role id test bearer (first ∷ rest) is own =
     none_behind_head role id first (test first) (filter test rest) (bears_not role id bearer first _ refl own.0 is) (none_behind role id test bearer rest is own.1)
 
-abbrev of_others : ℕ → Session → Bool
+abbrev pub of_others : ℕ → Session → Bool
 of_others caller session = not (eqb session.caller caller)
 
 ended_head : (role : ℕ) (id : Uint128) (caller : ℕ) (first : Session) (b same : Bool) (rest : List Session) → b ≡ bears role id first → same ≡ eqb first.caller caller → Each (HaveOwnIds first) rest

@@ -1,13 +1,13 @@
 -- An arbitration that breaks no rule takes effect.
 use Rattle.std.proofs.Common.{◌≡◌, ℕ, Bool, true, false, ◌||◌, cond, Some, None, refl, ap}
-use Rattle.p4_types.specs.declared.code.Cause.{Cause}
+use Rattle.p4_types.specs.declared.code.ArbitrationRule.{ArbitrationRule}
 use Rattle.p4_types.specs.declared.messages.MasterArbitrationUpdate.{MasterArbitrationUpdate}
 use Rattle.std.specs.Prelude.{is_none}
 use Rattle.role_arbiter.specs.Arbitration.{cause, asked, arbitrated, settled, is_refused, has_other_role, id_is_taken, lacks_session, lacks_role}
 use Rattle.role_arbiter.specs.Configuration.{role_of, config_of}
 use Rattle.role_arbiter.specs.State.{RolesState}
 
-none_by : (a b c d e : Bool) (w x y z : Cause) → cond a (Some w) (cond b (Some x) (cond c (Some y) (cond (d || e) (Some z) None))) ≡ None → (a || c || d || e) ≡ false
+none_by : (a b c d e : Bool) (w x y z : ArbitrationRule) → cond a (Some w) (cond b (Some x) (cond c (Some y) (cond (d || e) (Some z) None))) ≡ None → (a || c || d || e) ≡ false
 none_by false false false false false w x y z h = refl
 none_by false false false false true w x y z h = absurd (cc)
 none_by false false false true e w x y z h = absurd (cc)

@@ -1,21 +1,18 @@
 -- Each step keeps a sound state sound.
 use Rattle.std.proofs.Common.{◌≡◌, ◌≢◌, ℕ, suc, ◌<◌, ◌≤◌, Bool, true, false, cond, eqb, ltb, leb, not, ◌&&◌, ◌||◌, List, [], ◌∷◌, length, map, Option, Some, None, refl, sym, ap, ◌∙◌, subst, arith}
-use Rattle.std.specs.Option.{is_none}
 use Rattle.std.specs.List.{AllByRecursion as Each, filter, list_any}
 use Rattle.std.proofs.lemmas.Bool.{false≢true}
 use Rattle.std.proofs.lemmas.Bool.Decides.{nat_tests}
-use Rattle.p4_types.specs.declared.code.Cause.{Cause}
-use Rattle.p4_types.specs.declared.code.Code.TheVariants as codes
 use Rattle.p4_types.specs.declared.messages.MasterArbitrationUpdate.{MasterArbitrationUpdate}
 use Rattle.p4_types.specs.declared.messages.Uint128.{Uint128}
 use Rattle.role_arbiter.specs.declared.sessions.Session.{Session}
-use Rattle.role_arbiter.specs.Arbitration.{cause, asked, arbitrated, left, has_other_role, has_session, id_is_taken, lacks_session, lacks_role, replaced, inserted, received}
-use Rattle.role_arbiter.specs.Configuration.{config_of}
+use Rattle.role_arbiter.specs.Arbitration.{cause, asked, arbitrated, left, is_refused, has_other_role, has_session, id_is_taken, lacks_session, lacks_role, replaced, inserted, received}
 use Rattle.role_arbiter.specs.Election.{election_number}
 use Rattle.role_arbiter.specs.State.{RolesState, no_roles, bears, primary_of, session_in}
 use Rattle.role_arbiter.specs.Laws.{IsRising, HaveOwnIds, EachHasOwnId, IsAtMostGreatest, IsSound, StaysSound, ToldInOrder}
 use Rattle.role_arbiter.specs.Telling.{is_caller, others_of, told_by_end}
 use Rattle.role_arbiter.proofs.Greatest.{rises, reaches, few_roles, one_more_at_most}
+use Rattle.role_arbiter.proofs.Settling.{not_refused}
 
 abbrev callers : List Session → List ℕ
 callers sessions = map (λ session. session.caller) sessions
@@ -69,7 +66,7 @@ length_kept : {X : Type 0} (test : X → Bool) (xs : List X) → length (filter 
 length_kept test [] = omega arith
 length_kept test (x ∷ xs) = length_kept_head x (test x) (filter test xs) (length xs) (length_kept test xs)
 
-leave : (state : RolesState) (caller : ℕ) → IsSound state → IsSound (left state caller)
+pub leave : (state : RolesState) (caller : ℕ) → IsSound state → IsSound (left state caller)
 leave state caller sound =
     let test = λ (session : Session). not (eqb session.caller caller) in
     record {
@@ -187,7 +184,7 @@ length_inserted_head : (s new : Session) (b : Bool) (rest after : List Session) 
 length_inserted_head s new true rest after h = refl
 length_inserted_head s new false rest after h = ap (λ n. suc n) h
 
-length_inserted : (sessions : List Session) (new : Session) → length (inserted sessions new) ≡ suc (length sessions)
+pub length_inserted : (sessions : List Session) (new : Session) → length (inserted sessions new) ≡ suc (length sessions)
 length_inserted [] new = refl
 length_inserted (s ∷ rest) new = length_inserted_head s new (ltb new.caller s.caller) rest (inserted rest new) (length_inserted rest new)
 
@@ -224,35 +221,33 @@ not_taken caller role id session e differ same_role same_id = grind (arith, nat_
 owns_among : (sessions : List Session) (new : Session) → id_is_taken sessions new.caller new.role new.election_id ≡ false → Each (OwnAmongOthers new) sessions
 owns_among sessions new free = each_weaker (λ session. (not (eqb session.caller new.caller) && bears new.role new.election_id session) ≡ false) (OwnAmongOthers new) (λ session e differ. record { zero_alone = λ same_role same_id. not_taken new.caller new.role new.election_id session e differ same_role same_id }) sessions (none_passes _ sessions free)
 
-refuses : (x : Cause) → Some x ≡ None → ⊥
-refuses x e = cc
+none_refused : (a b c d : Bool) → (a || b || c || d) ≡ false → (b ≡ false) × (c ≡ false) × (d ≡ false)
+none_refused false false false false e = (refl, refl, refl)
+none_refused true b c d e = absurd (false≢true (sym e))
+none_refused false true c d e = absurd (false≢true (sym e))
+none_refused false false true d e = absurd (false≢true (sym e))
+none_refused false false false true e = absurd (false≢true (sym e))
 
-none_refused : (a b c d : Bool) (x y z w : Cause) → cond a (Some x) (cond b (Some y) (cond c (Some z) (cond d (Some w) None))) ≡ None → (c ≡ false) × (d ≡ false)
-none_refused false false false false x y z w e = (refl, refl)
-none_refused true b c d x y z w e = absurd (refuses x e)
-none_refused false true c d x y z w e = absurd (refuses y e)
-none_refused false false true d x y z w e = absurd (refuses z e)
-none_refused false false false true x y z w e = absurd (refuses w e)
-
-arbitration : (state : RolesState) (caller : ℕ) (update : MasterArbitrationUpdate) → IsSound state → cause state caller update ≡ None → IsSound (arbitrated state (asked caller update))
-arbitration state caller update sound accepted =
-    let new = asked caller update in
+-- a session that is not refused
+pub entered : (state : RolesState) (new : Session) → IsSound state → is_refused state new ≡ false → IsSound (arbitrated state new)
+entered state new sound accepted =
     let free =
-    none_refused (has_other_role state.sessions caller new.role) (is_none (config_of update.role)) (id_is_taken state.sessions caller new.role new.election_id) (lacks_session state.sessions caller || lacks_role state.named new.role)
-    (record { rule = 2; code = codes.FailedPrecondition }) (record { rule = 3; code = codes.InvalidArgument }) (record { rule = 4; code = codes.InvalidArgument }) (record { rule = 5; code = codes.ResourceExhausted }) accepted in
-    let room = any_head (lacks_session state.sessions caller) (lacks_role state.named new.role) free.1 in
+    none_refused (has_other_role state.sessions new.caller new.role) (id_is_taken state.sessions new.caller new.role new.election_id) (lacks_session state.sessions new.caller) (lacks_role state.named new.role) accepted in
     let P : Session → Type 0 = λ session. IsAtMostGreatest (received state.named new.role new.election_id) session in
     let before : Kept P state.sessions = record { rising = sound.rising; own_ids = sound.own_ids; each = each_weaker (λ session. IsAtMostGreatest state.named session) P (λ session h. omega (arith, h, rises state.named new.role session.role new.election_id)) state.sessions sound.at_most_greatest; few = sound.few_sessions } in
-    let after = put_by P state.sessions new (has_session state.sessions caller) refl before (reaches state.named new.role new.election_id) (owns_among state.sessions new free.0) room.0 in
+    let after = put_by P state.sessions new (has_session state.sessions new.caller) refl before (reaches state.named new.role new.election_id) (owns_among state.sessions new free.0) free.1 in
     record {
       rising = after.rising;
       own_ids = after.own_ids;
       at_most_greatest = after.each;
       few_sessions = after.few;
-      few_roles = few_roles state.named new.role new.election_id sound.few_roles room.1;
+      few_roles = few_roles state.named new.role new.election_id sound.few_roles free.2;
     }
 
-at_first : IsSound no_roles
+arbitration : (state : RolesState) (caller : ℕ) (update : MasterArbitrationUpdate) → IsSound state → cause state caller update ≡ None → IsSound (arbitrated state (asked caller update))
+arbitration state caller update sound accepted = entered state (asked caller update) sound (not_refused state caller update accepted)
+
+pub at_first : IsSound no_roles
 at_first = record { rising = tt; own_ids = tt; at_most_greatest = tt; few_sessions = omega arith; few_roles = omega arith }
 
 pub stays_sound : StaysSound

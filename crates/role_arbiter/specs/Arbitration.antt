@@ -1,8 +1,8 @@
 -- An arbitration: why it is refused, and what it makes of the sessions (P4Runtime 1.3.0, "Mastership Arbitration"; limits: this project's profile).
 use Rattle.std.specs.Prelude.{ℕ, ◌==◌, nat_lt, nat_le, Bool, ◌&&◌, ◌||◌, not, if◌then◌else◌, List, [], ◌∷◌, length, filter, Option, Some, None, is_none, unwrap_or}
 use Rattle.std.specs.List.{list_any}
-use Rattle.p4_types.specs.declared.code.Cause.{Cause}
-use Rattle.p4_types.specs.declared.code.Code.TheVariants as codes
+use Rattle.p4_types.specs.declared.code.ArbitrationRule.{ArbitrationRule}
+use Rattle.p4_types.specs.declared.code.ArbitrationRule.TheVariants as rules
 use Rattle.p4_types.specs.declared.messages.MasterArbitrationUpdate.{MasterArbitrationUpdate}
 use Rattle.p4_types.specs.declared.messages.Uint128.{Uint128}
 use Rattle.role_arbiter.specs.declared.sessions.Session.{Session}
@@ -36,12 +36,12 @@ abbrev pub lacks_role : List NamedRole → ℕ → Bool
 lacks_role named role = not (is_named named role) && nat_le 64 (length named)
 
 -- the first rule of A2 to A5 that an update of a caller breaks, if it breaks one; the device (A1) is looked at before
-abbrev pub cause : RolesState → ℕ → MasterArbitrationUpdate → Option Cause
+abbrev pub cause : RolesState → ℕ → MasterArbitrationUpdate → Option ArbitrationRule
 cause state caller update =
-    if has_other_role state.sessions caller (role_of update.role) then Some (record { rule = 2; code = codes.FailedPrecondition })
-    else if is_none (config_of update.role) then Some (record { rule = 3; code = codes.InvalidArgument })
-    else if id_is_taken state.sessions caller (role_of update.role) update.election_id then Some (record { rule = 4; code = codes.InvalidArgument })
-    else if lacks_session state.sessions caller || lacks_role state.named (role_of update.role) then Some (record { rule = 5; code = codes.ResourceExhausted })
+    if has_other_role state.sessions caller (role_of update.role) then Some rules.A2
+    else if is_none (config_of update.role) then Some rules.A3
+    else if id_is_taken state.sessions caller (role_of update.role) update.election_id then Some rules.A4
+    else if lacks_session state.sessions caller || lacks_role state.named (role_of update.role) then Some rules.A5
     else None
 
 -- the session that an update asks for

@@ -4,3 +4,4 @@ pub mod Configuration
 pub mod Arbitration
 pub mod Telling
 pub mod Laws
+pub mod Undo

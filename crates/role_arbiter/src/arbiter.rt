@@ -1,8 +1,11 @@
 //! The roles of a device and their sessions.
-ghost use Rattle.std.specs.Prelude.{◌≡◌, false, None, Some, IfOk, IfErr, OnOk, OnErr, is_some};
+ghost use Rattle.std.specs.Prelude.{◌≡◌, ◌==◌, false, None, Some, IfOk, IfErr, OnOk, OnErr, is_some};
+ghost use Rattle.std.specs.List.{find};
 ghost use Rattle.std.specs.Option.{option_map, option_copied};
 ghost use Rattle.role_arbiter.specs.State.{RolesState, no_roles, session_in, greatest_in, primary_of, status_by, status_of};
-ghost use Rattle.role_arbiter.specs.Arbitration.{cause, asked, arbitrated, left, lacks_session, lacks_role};
+ghost use Rattle.role_arbiter.specs.Arbitration.{cause, asked, arbitrated, left, is_refused, inserted};
+ghost use Rattle.role_arbiter.specs.Laws.{IsSound};
+ghost use Rattle.role_arbiter.specs.Undo.{session_back, named_back};
 ghost use Rattle.role_arbiter.specs.Telling.{told_at_arbitration, told_at_leave};
 
 use crate::changes::{self, ROLE_LIMIT};
@@ -10,7 +13,7 @@ use crate::configuration::{config_of, role_of};
 use crate::numbers::{Lanes, SESSION_LIMIT};
 use crate::sessions::{self, NamedRole, Session};
 use list_types::NoMemory;
-use p4_types::code::{Cause, Code};
+use p4_types::code::{ArbitrationRule, Code};
 use p4_types::messages::{MasterArbitrationUpdate, Uint128};
 use std::alloc::Global;
 use std::marker::Model;
@@ -24,14 +27,15 @@ pub struct Roles {
 }
 
 impl Model for Roles {
-    ghost use Rattle.std.specs.Prelude.{vec_len, vec_capacity, ◌≤◌};
+    ghost use Rattle.std.specs.Prelude.{vec_capacity, ◌≤◌};
+    ghost use Rattle.role_arbiter.specs.Laws.{IsSound};
     ghost use Rattle.role_arbiter.specs.State.{RolesState};
 
     ghost Value = { RolesState };
 
     ghost view = { λ roles. record { sessions = roles.sessions.items; named = roles.named.items } };
 
-    ghost invariant = { λ roles. (vec_len roles.sessions ≤ 32) × (32 ≤ vec_capacity roles.sessions) × (64 ≤ vec_capacity roles.named) };
+    ghost invariant = { λ roles. IsSound (record { sessions = roles.sessions.items; named = roles.named.items }) × (32 ≤ vec_capacity roles.sessions) × (64 ≤ vec_capacity roles.named) };
 }
 
 impl Roles {
@@ -42,16 +46,6 @@ impl Roles {
         let sessions = Vec::with_capacity(alloc, SESSION_LIMIT)?;
         let named = Vec::with_capacity(alloc, ROLE_LIMIT)?;
         Ok(Roles { sessions, named })
-    }
-
-    /// A copy, with room for as many.
-    pub fn duplicate(&self, alloc: Global) -> Result<Roles, NoMemory>
-        ensures { IfOk result (λ copy. copy ≡ self.now) }
-    {
-        Ok(Roles {
-            sessions: sessions::copied_sessions(alloc, &self.sessions)?,
-            named: sessions::copied_named(alloc, &self.named)?,
-        })
     }
 
     /// The live sessions, by rising caller.
@@ -80,6 +74,16 @@ impl Roles {
         ensures { result ≡ greatest_in self.now.named role }
     {
         sessions::greatest_in(&self.named, role)
+    }
+
+    /// The greatest election id that a role ever received, if it was ever named.
+    pub(crate) fn received(&self, role: u64) -> Option<Uint128>
+        ensures { result ≡ option_map (λ known. known.greatest) (find (λ known. known.role == role) self.now.named) }
+    {
+        match sessions::known_in(&self.named, role) {
+            None => None,
+            Some(known) => Some(known.greatest),
+        }
     }
 
     /// The session of a role's primary, if it has one.
@@ -119,37 +123,29 @@ impl Roles {
 
     /// The session that an update would give its caller, or the first rule of A2 to A5 that it
     /// breaks. The device (A1) is the caller's to look at. Nothing changes.
-    pub fn check(&self, caller: u16, update: &MasterArbitrationUpdate) -> Result<Session, Cause>
+    pub fn check(
+        &self,
+        caller: u16,
+        update: &MasterArbitrationUpdate,
+    ) -> Result<Session, ArbitrationRule>
         ensures accepted { OnOk result (cause self.now caller update.now ≡ None) }
         ensures session { IfOk result (λ session. session ≡ asked caller update.now) }
         ensures refused { IfErr result (λ refused. cause self.now caller update.now ≡ Some refused) }
     {
         let role = role_of(&update.role);
         if changes::has_other_role(&self.sessions, caller, role) {
-            return Err(Cause {
-                rule: 2,
-                code: Code::FailedPrecondition,
-            });
+            return Err(ArbitrationRule::A2);
         }
         let Ok(config) = config_of(&update.role) else {
-            return Err(Cause {
-                rule: 3,
-                code: Code::InvalidArgument,
-            });
+            return Err(ArbitrationRule::A3);
         };
         if changes::id_is_taken(&self.sessions, caller, role, update.election_id) {
-            return Err(Cause {
-                rule: 4,
-                code: Code::InvalidArgument,
-            });
+            return Err(ArbitrationRule::A4);
         }
         if changes::lacks_session(&self.sessions, caller)
             || changes::lacks_role(&self.named, role)
         {
-            return Err(Cause {
-                rule: 5,
-                code: Code::ResourceExhausted,
-            });
+            return Err(ArbitrationRule::A5);
         }
         Ok(Session {
             caller,
@@ -160,7 +156,11 @@ impl Roles {
     }
 
     /// Arbitration by the rules A2 to A5. A refusal changes nothing.
-    pub fn arbitrate(&mut self, caller: u16, update: &MasterArbitrationUpdate) -> Result<(), Cause>
+    pub fn arbitrate(
+        &mut self,
+        caller: u16,
+        update: &MasterArbitrationUpdate,
+    ) -> Result<(), ArbitrationRule>
         ensures accepted { OnOk result (cause self.old caller update.now ≡ None) }
         ensures step { OnOk result (self.new ≡ arbitrated self.old (asked caller update.now)) }
         ensures refused { IfErr result (λ refused. cause self.old caller update.now ≡ Some refused) }
@@ -175,7 +175,7 @@ impl Roles {
         &mut self,
         caller: u16,
         update: &MasterArbitrationUpdate,
-    ) -> Result<Lanes, Cause>
+    ) -> Result<Lanes, ArbitrationRule>
         ensures accepted { OnOk result (cause self.old caller update.now ≡ None) }
         ensures step { OnOk result (self.new ≡ arbitrated self.old (asked caller update.now)) }
         ensures told { IfOk result (λ lanes. lanes ≡ told_at_arbitration self.old (asked caller update.now)) }
@@ -188,8 +188,7 @@ impl Roles {
 
     /// The step alone, for a session that `check` gave, with the lanes that are to be told of it.
     pub fn enter(&mut self, session: Session) -> Lanes
-        requires session { lacks_session self.old.sessions session.caller ≡ false }
-        requires role { lacks_role self.old.named session.role ≡ false }
+        requires accepted { is_refused self.old session ≡ false }
         ensures step { self.new ≡ arbitrated self.old session }
         ensures told { result ≡ told_at_arbitration self.old session }
     {
@@ -226,5 +225,29 @@ impl Roles {
         } else {
             Lanes::new()
         }
+    }
+
+    /// Takes an arbitration back: the caller has this session again, or none, and its role this greatest election
+    /// id, or was not named.
+    pub(crate) fn take_back(
+        &mut self,
+        caller: u16,
+        role: u64,
+        session: Option<Session>,
+        greatest: Option<Uint128>,
+    )
+        requires sound { IsSound (record { sessions = session_back caller session self.old.sessions; named = named_back role greatest self.old.named }) }
+        ensures { self.new ≡ record { sessions = session_back caller session self.old.sessions; named = named_back role greatest self.old.named } }
+    {
+        changes::session_back(&mut self.sessions, caller, session);
+        changes::named_back(&mut self.named, role, greatest);
+    }
+
+    /// Takes the end of a session back.
+    pub(crate) fn put_back(&mut self, session: Session)
+        requires sound { IsSound (record self.old { sessions = inserted self.old.sessions session }) }
+        ensures { self.new ≡ record self.old { sessions = inserted self.old.sessions session } }
+    {
+        changes::insert(&mut self.sessions, session);
     }
 }

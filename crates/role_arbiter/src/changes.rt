@@ -1,7 +1,8 @@
 //! Changes of the sessions and of the roles, and who is told of them.
 ghost use Rattle.std.specs.Prelude.{◌≡◌, ◌==◌, ◌<◌, ◌≤◌, nat_lt, false, filter, length, not, vec_len, vec_capacity, position};
 ghost use Rattle.std.specs.List.{position_or_len, list_any};
-ghost use Rattle.role_arbiter.specs.Arbitration.{has_other_role, id_is_taken, has_session, is_named, lacks_session, lacks_role, inserted, with_session, greater, received};
+ghost use Rattle.role_arbiter.specs.Arbitration.{has_other_role, id_is_taken, has_session, is_named, lacks_session, lacks_role, inserted, replaced, with_session, greater, received};
+ghost use Rattle.role_arbiter.specs.Undo.{session_back, named_back, with_greatest};
 ghost use Rattle.role_arbiter.specs.Telling.{with_others, others_of};
 
 use crate::numbers::{Lanes, SESSION_LIMIT};
@@ -83,7 +84,8 @@ fn place_of_role(named: &[NamedRole], role: u64) -> Option<usize>
     named.iter().position(|known| known.role == role)
 }
 
-fn insert(sessions: &mut Vec<Session>, session: Session)
+/// Adds a session before those of greater callers.
+pub(crate) fn insert(sessions: &mut Vec<Session>, session: Session)
     requires few { vec_len sessions.old < 32 }
     requires room { 32 ≤ vec_capacity sessions.old }
     ensures items { sessions.new.items ≡ inserted sessions.old.items session }
@@ -140,10 +142,58 @@ pub(crate) fn receive(named: &mut Vec<NamedRole>, role: u64, id: Uint128)
 
 pub(crate) fn remove(sessions: &mut Vec<Session>, caller: u16)
     ensures items { sessions.new.items ≡ filter (λ session. not (session.caller == caller)) sessions.old.items }
-    ensures few { vec_len sessions.new ≤ vec_len sessions.old }
     ensures room { vec_capacity sessions.new ≡ vec_capacity sessions.old }
 {
     sessions.retain(|session| session.caller != caller);
+}
+
+/// Puts the session back that a caller had, or takes away the one that it has.
+pub(crate) fn session_back(sessions: &mut Vec<Session>, caller: u16, former: Option<Session>)
+    ensures items { sessions.new.items ≡ session_back caller former sessions.old.items }
+    ensures room { vec_capacity sessions.new ≡ vec_capacity sessions.old }
+{
+    match former {
+        None => remove(sessions, caller),
+        Some(former) => replace(sessions, former),
+    }
+}
+
+// Puts a session in the place of its caller's, if there is one.
+#[tactic(auto, using(crate::proofs::Places::replaced_where))]
+fn replace(sessions: &mut Vec<Session>, session: Session)
+    ensures items { sessions.new.items ≡ replaced sessions.old.items session }
+    ensures room { vec_capacity sessions.new ≡ vec_capacity sessions.old }
+{
+    if let Some(place) = place_of(sessions, session.caller) {
+        sessions[place] = session;
+    }
+}
+
+/// Gives a role the greatest election id again that it had, or takes the last one away.
+pub(crate) fn named_back(named: &mut Vec<NamedRole>, role: u64, former: Option<Uint128>)
+    ensures items { named.new.items ≡ named_back role former named.old.items }
+    ensures room { vec_capacity named.new ≡ vec_capacity named.old }
+{
+    match former {
+        None => {
+            named.pop();
+        }
+        Some(greatest) => set_greatest(named, role, greatest),
+    }
+}
+
+#[tactic(auto, using(crate::proofs::Places::greatest_where))]
+fn set_greatest(named: &mut Vec<NamedRole>, role: u64, greatest: Uint128)
+    ensures items { named.new.items ≡ with_greatest named.old.items role greatest }
+    ensures room { vec_capacity named.new ≡ vec_capacity named.old }
+{
+    if let Some(place) = place_of_role(named, role) {
+        let known = named[place];
+        named[place] = NamedRole {
+            role: known.role,
+            greatest,
+        };
+    }
 }
 
 pub(crate) fn with_others(others: bool, new: &Session, sessions: &[Session]) -> Lanes

@@ -4,7 +4,7 @@ ghost use Rattle.wire_messages.specs.Answers.{Reads};
 ghost use Rattle.role_arbiter.specs.Configuration.{role_of, ids_in, ids_of, config_of};
 ghost use Rattle.wire_messages.specs.Numbers.{as_uint32};
 
-use crate::numbers::Ids;
+use p4_types::ids::Ids;
 use p4_types::messages::{Any, Role};
 use wire_fields::varint;
 use wire_messages::Unreadable;

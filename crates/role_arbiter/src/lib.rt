@@ -7,7 +7,9 @@ mod configuration;
 pub mod laws;
 mod numbers;
 mod sessions;
+mod undo;
 
 pub use arbiter::Roles;
-pub use numbers::{Ids, Lanes};
+pub use numbers::Lanes;
 pub use sessions::{NamedRole, Session, election_number};
+pub use undo::UndoRoles;

@@ -1,17 +1,14 @@
 //! Live sessions, and the roles that were named.
-ghost use Rattle.std.specs.Prelude.{◌≡◌, ◌==◌, ◌≤◌, length, IfOk, vec_len, vec_capacity};
+ghost use Rattle.std.specs.Prelude.{◌≡◌, ◌==◌};
 ghost use Rattle.std.specs.List.{find};
 ghost use Rattle.std.specs.Option.{option_copied};
 ghost use Rattle.role_arbiter.specs.Election.{election_number};
 ghost use Rattle.role_arbiter.specs.State.{session_in, greatest_in, primary_in, status_by};
 ghost use Rattle.role_arbiter.specs.Telling.{same_config, differs};
 
-use crate::changes::ROLE_LIMIT;
-use crate::numbers::{Ids, SESSION_LIMIT};
-use list_types::NoMemory;
 use p4_types::code::Code;
+use p4_types::ids::Ids;
 use p4_types::messages::Uint128;
-use std::alloc::Global;
 
 /// A controller's live session: its lane, its role, and the election id and the configuration that
 /// it last gave.
@@ -45,7 +42,7 @@ pub(crate) fn session_in(sessions: &[Session], caller: u16) -> Option<&Session>
     sessions.iter().find(|session| session.caller == caller)
 }
 
-fn known_in(named: &[NamedRole], role: u64) -> Option<&NamedRole>
+pub(crate) fn known_in(named: &[NamedRole], role: u64) -> Option<&NamedRole>
     ensures { option_copied result ≡ find (λ known. known.role == role) named.now }
 {
     named.iter().find(|known| known.role == role)
@@ -104,7 +101,7 @@ pub(crate) fn copied(session: &Session) -> Session
 {
     let config = match &session.config {
         None => None,
-        Some(ids) => Some(ids.copied()),
+        Some(ids) => Some(ids.copy()),
     };
     Session {
         caller: session.caller,
@@ -121,32 +118,6 @@ pub(crate) fn copied_of(session: Option<&Session>) -> Option<Session>
         None => None,
         Some(session) => Some(copied(session)),
     }
-}
-
-// A copy with room for 32.
-pub(crate) fn copied_sessions(alloc: Global, sessions: &[Session]) -> Result<Vec<Session>, NoMemory>
-    requires few { length sessions.now ≤ 32 }
-    ensures items { IfOk result (λ copy. copy.items ≡ sessions.now) }
-    ensures few { IfOk result (λ copy. vec_len copy ≤ 32) }
-    ensures room { IfOk result (λ copy. 32 ≤ vec_capacity copy) }
-{
-    let mut copy = Vec::with_capacity(alloc, SESSION_LIMIT)?;
-    for session in sessions {
-        copy.push_reserved(copied(session));
-    }
-    Ok(copy)
-}
-
-// A copy with room for 64.
-pub(crate) fn copied_named(alloc: Global, named: &[NamedRole]) -> Result<Vec<NamedRole>, NoMemory>
-    ensures items { IfOk result (λ copy. copy.items ≡ named.now) }
-    ensures room { IfOk result (λ copy. 64 ≤ vec_capacity copy) }
-{
-    let mut copy = Vec::with_capacity(alloc, named.len().max(ROLE_LIMIT))?;
-    for known in named {
-        copy.push_reserved(*known);
-    }
-    Ok(copy)
 }
 
 pub(crate) fn status_by(primary: Option<&Session>, caller: u16) -> Code

@@ -5,7 +5,7 @@ use Rattle.p4_types.specs.declared.info.Table.{Table}
 use Rattle.p4_types.specs.declared.table.Entry.{Entry}
 use Rattle.p4_types.specs.declared.table.EntryChange.{EntryChange}
 use Rattle.p4_types.specs.declared.table.Room.{Room}
-use Rattle.switch_spec.specs.Entries.{new_entry, next_number, inserted}
+use Rattle.plane_spec.specs.Entries.{new_entry, next_number, inserted}
 
 -- an entry's number is below
 abbrev Below : ℕ → Entry → Type 0

@@ -3,8 +3,9 @@ ghost use Rattle.std.specs.Prelude.{◌≡◌, ◌<◌, ◌+◌, ◌-◌, ◌^�
 
 use list_types::{List, NoMemory, Text};
 use p4_types::info::Table;
+use p4_types::keys::{Arguments, FieldTest, Tests};
 use p4_types::p4info::Preamble;
-use p4_types::table::{ActionCall, EntryChange, EntryName, FieldTest, Room};
+use p4_types::table::{ActionCall, EntryAction, EntryChange, EntryName, Room};
 use std::alloc::Global;
 use std::io::{self, Error, ErrorKind};
 use std::time::Clock;
@@ -61,33 +62,33 @@ fn network(number: u32) -> u128 {
     u128::from(number) * 256 % 0x1_0000_0000
 }
 
-fn name(alloc: Global, table: u32, number: u32) -> Result<EntryName, NoMemory>
-    ensures { IfOk result (λ name. name.table ≡ table) }
+fn name(table: u32, number: u32) -> EntryName
+    ensures { result.table ≡ table }
 {
-    let mut tests = List::new(alloc);
+    let mut tests = Tests::new();
     tests.push(FieldTest::Prefix {
         value: network(number),
         length: 24,
         width: 32,
-    })?;
-    Ok(EntryName {
+    });
+    EntryName {
         table,
         tests,
         priority: 0,
-    })
+    }
 }
 
-fn route(alloc: Global, table: u32, number: u32) -> Result<EntryChange, NoMemory>
-    ensures { IfOk result (λ change. change.name.table ≡ table) }
+fn route(table: u32, number: u32) -> EntryChange
+    ensures { result.name.table ≡ table }
 {
-    Ok(EntryChange {
-        name: name(alloc, table, number)?,
+    EntryChange {
+        name: name(table, number),
         controller_metadata: 0,
-        action: ActionCall {
+        action: EntryAction::Call(ActionCall {
             action: ROUTE,
-            arguments: List::new(alloc),
-        },
-    })
+            arguments: Arguments::new(),
+        }),
+    }
 }
 
 // Puts a route in, which draws this sequence number.
@@ -99,8 +100,8 @@ fn put(
     number: u32,
 ) -> bool
     requires table { change.now.name.table ≡ table.now.preamble.id }
-    requires below { All (λ entry. entry.seq < 1 + number) store.old }
-    ensures below { All (λ entry. entry.seq < 2 + number) store.new }
+    requires below { All (λ entry. entry.seq < 1 + number) store.old.entries }
+    ensures below { All (λ entry. entry.seq < 2 + number) store.new.entries }
 {
     let room = Room {
         rows: 1,
@@ -110,17 +111,19 @@ fn put(
     store.insert(alloc, table, change, room).is_ok()
 }
 
-// A store of so many routes.
+// A store of so many routes, each of which is kept.
 fn filled(alloc: Global, routes: u32) -> Result<TableStore, NoMemory>
-    ensures below { IfOk result (λ store. All (λ entry. entry.seq < 1 + routes) store) }
+    ensures below { IfOk result (λ store. All (λ entry. entry.seq < 1 + routes) store.entries) }
+    ensures kept { IfOk result (λ store. store.before ≡ store.entries) }
 {
     let table = self::table(alloc, ROUTES);
     let mut store = TableStore::open(alloc);
     for number in 0..routes {
-        let change = route(alloc, ROUTES, number)?;
+        let change = route(ROUTES, number);
         if !put(alloc, &mut store, &table, &change, number) {
             return Err(NoMemory);
         }
+        store.keep();
     }
     Ok(store)
 }
@@ -137,7 +140,7 @@ fn asked(alloc: Global, routes: u32) -> Result<Vec<LookUp>, NoMemory> {
     for number in 0..LOOK_UPS {
         let route = (number * 7919).checked_rem(routes).unwrap_or(0);
         list.push(LookUp {
-            name: name(alloc, ROUTES, route)?,
+            name: name(ROUTES, route),
             key: [network(route).wrapping_add(1)],
         })?;
     }
@@ -167,45 +170,46 @@ fn found_by_key(store: &TableStore, asked: &[LookUp]) -> u32 {
 // Puts an entry in, which would draw this sequence number, and undoes it. Whether it was put in.
 fn put_and_undo(
     alloc: Global,
-    store: TableStore,
+    store: &mut TableStore,
     table: &Table,
     change: &EntryChange,
     number: u32,
-) -> (TableStore, bool)
+) -> bool
     requires table { change.now.name.table ≡ table.now.preamble.id }
-    requires below { All (λ entry. entry.seq < 1 + number) store }
-    ensures { result.0 ≡ store }
+    requires below { All (λ entry. entry.seq < 1 + number) store.old.entries }
+    ensures entries { store.new.entries ≡ store.old.before }
+    ensures before { store.new.before ≡ store.old.before }
 {
     let room = Room {
         rows: 1,
         slots: 1,
         numbers: u64::MAX - 1 - u64::from(number),
     };
-    let mut draft = store.draft(alloc);
-    let made = draft.insert(alloc, table, change, room).is_ok();
-    (draft.undo(), made)
+    let made = store.insert(alloc, table, change, room).is_ok();
+    store.undo();
+    made
 }
 
-// The store, and how many INSERTs into another table were made, each of which was undone.
+// How many INSERTs into another table were made, each of which was undone.
 fn changed(
     alloc: Global,
-    mut store: TableStore,
+    store: &mut TableStore,
     table: &Table,
     change: &EntryChange,
     routes: u32,
-) -> (TableStore, u32)
+) -> u32
     requires table { change.now.name.table ≡ table.now.preamble.id }
-    requires below { All (λ entry. entry.seq < 1 + routes) store }
+    requires below { All (λ entry. entry.seq < 1 + routes) store.old.entries }
+    requires kept { store.old.before ≡ store.old.entries }
+    ensures { store.new.entries ≡ store.old.entries }
 {
     let mut made = 0u32;
     for _ in 0..LOOK_UPS {
-        let (undone, was_made) = put_and_undo(alloc, store, table, change, routes);
-        store = undone;
-        if was_made {
+        if put_and_undo(alloc, store, table, change, routes) {
             made = made.wrapping_add(1);
         }
     }
-    (store, made)
+    made
 }
 
 fn hundredths(before: u128, after: u128) -> u128 {
@@ -215,20 +219,17 @@ fn hundredths(before: u128, after: u128) -> u128 {
 /// Looks up in a table of so many routes, and changes another table beside it.
 pub fn look_ups<R: Clock + AllocGlobal>(rt: &R, routes: u32) -> io::Result<Measured> {
     let alloc = rt.alloc();
-    let (Ok(store), Ok(asked)) = (filled(alloc, routes), asked(alloc, routes)) else {
+    let (Ok(mut store), Ok(asked)) = (filled(alloc, routes), asked(alloc, routes)) else {
         return Err(Error::from(ErrorKind::OutOfMemory));
     };
     let other = table(alloc, OTHER);
-    let Ok(change) = route(alloc, OTHER, 0) else {
-        return Err(Error::from(ErrorKind::OutOfMemory));
-    };
+    let change = route(OTHER, 0);
     let start = rt.monotonic()?.as_nanos();
     let found = found_by_name(&store, &asked);
     let middle = rt.monotonic()?.as_nanos();
     let best = found_by_key(&store, &asked);
     let found_both = rt.monotonic()?.as_nanos();
-    // The store is dropped behind the last reading of the clock.
-    let (_store, made) = changed(alloc, store, &other, &change, routes);
+    let made = changed(alloc, &mut store, &other, &change, routes);
     let end = rt.monotonic()?.as_nanos();
     Ok(Measured {
         find: hundredths(start, middle),

@@ -1,5 +1,5 @@
 -- Counts that never fall and stay at 2^64 - 1.
-use Rattle.std.specs.Prelude.{ℕ, Bool, ◌+◌, ◌-◌, ◌^◌, ◌≤◌, min, if◌then◌else◌}
+use Rattle.std.specs.Prelude.{◌≡◌, ℕ, Bool, ◌+◌, ◌-◌, ◌^◌, ◌≤◌, min, if◌then◌else◌}
 
 -- a count after one more
 abbrev pub one_more : ℕ → ℕ
@@ -17,3 +17,7 @@ Rose before now = one_more before ≤ now
 pub record HasCause (before now : ℕ) (came : Type 0) : Type 0 where
   pub later : before ≤ now
   pub cause : came → Rose before now
+
+-- a count is as before where what it counts did not come
+abbrev pub StaysUnless : ℕ → ℕ → Type 0 → Type 0
+StaysUnless before now came = ¬ came → now ≡ before

@@ -1,7 +1,7 @@
 // A link in memory.
 ghost use Rattle.std.specs.Prelude.{◌≡◌, ◌+◌, ◌<◌, ◌≤◌, ◌↔◌, ◌⊎◌, [], Some, length, IfOk, IsTrue};
 ghost use Rattle.sw_edge.specs.Answers.{PullFits, Pulls, Sends};
-ghost use Rattle.sw_edge.specs.Counts.{HasCause};
+ghost use Rattle.sw_edge.specs.Counts.{HasCause, StaysUnless, one_more};
 ghost use Rattle.sw_edge.specs.Memory.{is_next, after_call};
 ghost use Rattle.sw_edge.specs.MemoryNet.{IsNextQuiet, course, HeldLink};
 
@@ -73,13 +73,17 @@ impl Link for MemoryLink {
         ensures pulls { Pulls (Some self.old.unread.left) (Some self.new.unread.left) result buf.new }
         ensures keeps_sent { self.new.written ≡ self.old.written }
         ensures failed { HasCause self.old.course.faults self.new.course.faults (result ≡ Pulled.Failed) }
+        ensures no_fault { StaysUnless self.old.course.faults self.new.course.faults (result ≡ Pulled.Failed) }
         ensures quiet { HasCause self.old.course.quiets self.new.course.quiets (result ≡ Pulled.Quiet) }
+        ensures not_quiet { StaysUnless self.old.course.quiets self.new.course.quiets (result ≡ Pulled.Quiet) }
         ensures end { HasCause self.old.course.ends self.new.course.ends (result ≡ Pulled.End) }
+        ensures no_end { StaysUnless self.old.course.ends self.new.course.ends (result ≡ Pulled.End) }
 
         // It fails where it is told to, and nowhere else, and is quiet where it is told to be, and nowhere else.
         ensures picked { (result ≡ Pulled.Failed) ↔ IsTrue (is_next self.old.course.failing) }
         ensures counted { self.new.course.failing ≡ after_call self.old.course.failing }
         ensures picked_quiet { (result ≡ Pulled.Quiet) ↔ IsNextQuiet self.old.course }
+        ensures once { result ≡ Pulled.Quiet → self.new.course.quiets ≡ one_more self.old.course.quiets }
     {
         if self.course.fails() {
             return Pulled::Failed;
@@ -100,8 +104,9 @@ impl Link for MemoryLink {
         ensures sends { Sends (Some self.old.written.sent) (Some self.new.written.sent) result bytes.now }
         ensures keeps_left { self.new.unread ≡ self.old.unread }
         ensures failed { HasCause self.old.course.faults self.new.course.faults (result ≡ Sent.Failed) }
-        ensures quiet { self.old.course.quiets ≤ self.new.course.quiets }
-        ensures end { self.old.course.ends ≤ self.new.course.ends }
+        ensures no_fault { StaysUnless self.old.course.faults self.new.course.faults (result ≡ Sent.Failed) }
+        ensures quiet { self.new.course.quiets ≡ self.old.course.quiets }
+        ensures end { self.new.course.ends ≡ self.old.course.ends }
 
         // It fails where it is told to and where there is no room, and nowhere else.
         ensures picked { IsTrue (is_next self.old.course.failing) → (result ≡ Sent.Failed) × (self.new.written ≡ self.old.written) }

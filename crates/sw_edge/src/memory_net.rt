@@ -1,6 +1,6 @@
 // A net in memory.
 ghost use Rattle.std.specs.Prelude.{◌≡◌, ◌≤◌, ◌↔◌, ◌⊎◌, ◌∷◌, [], IsTrue};
-ghost use Rattle.sw_edge.specs.Counts.{HasCause};
+ghost use Rattle.sw_edge.specs.Counts.{HasCause, StaysUnless, one_more};
 ghost use Rattle.sw_edge.specs.Memory.{is_next, after_call};
 ghost use Rattle.sw_edge.specs.MemoryNet.{IsNextQuiet, course, HeldLink, HeldNet, HeldPorts};
 
@@ -56,8 +56,9 @@ impl Net for MemoryNet {
 
     fn listen(&mut self, _control: u16, _packets: u16) -> Sent
         ensures failed { HasCause self.old.course.faults self.new.course.faults (result ≡ Sent.Failed) }
-        ensures quiet { self.old.course.quiets ≤ self.new.course.quiets }
-        ensures end { self.old.course.ends ≤ self.new.course.ends }
+        ensures no_fault { StaysUnless self.old.course.faults self.new.course.faults (result ≡ Sent.Failed) }
+        ensures quiet { self.new.course.quiets ≡ self.old.course.quiets }
+        ensures end { self.new.course.ends ≡ self.old.course.ends }
 
         // It fails where it is told to, and nowhere else.
         ensures picked { (result ≡ Sent.Failed) ↔ IsTrue (is_next self.old.course.failing) }
@@ -73,15 +74,20 @@ impl Net for MemoryNet {
 
     fn accept(&mut self) -> Accepted<MemoryLink>
         ensures failed { HasCause self.old.course.faults self.new.course.faults (result ≡ Accepted.Failed) }
+        ensures no_fault { StaysUnless self.old.course.faults self.new.course.faults (result ≡ Accepted.Failed) }
         ensures quiet { HasCause self.old.course.quiets self.new.course.quiets (result ≡ Accepted.Quiet) }
+        ensures not_quiet { StaysUnless self.old.course.quiets self.new.course.quiets (result ≡ Accepted.Quiet) }
         ensures end { HasCause self.old.course.ends self.new.course.ends (result ≡ Accepted.End) }
+        ensures no_end { StaysUnless self.old.course.ends self.new.course.ends (result ≡ Accepted.End) }
 
         // It fails where it is told to, and nowhere else, is quiet where it is told to be, and nowhere else, and ends where no link is left.
         ensures picked { (result ≡ Accepted.Failed) ↔ IsTrue (is_next self.old.course.failing) }
         ensures picked_quiet { (result ≡ Accepted.Quiet) ↔ IsNextQuiet self.old.course }
         ensures none_left { result ≡ Accepted.End → self.old.links ≡ [] }
         ensures first { (link : HeldLink) → result ≡ Accepted.Link link → self.old.links ≡ link ∷ self.new.links }
+        ensures links_kept { (result ≡ Accepted.Failed) ⊎ (result ≡ Accepted.Quiet) → self.new.links ≡ self.old.links }
         ensures ports { self.new.ports ≡ self.old.ports }
+        ensures once { result ≡ Accepted.Quiet → self.new.course.quiets ≡ one_more self.old.course.quiets }
         ensures counted { self.new.course.failing ≡ after_call self.old.course.failing }
     {
         if self.course.fails() {
@@ -99,12 +105,14 @@ impl Net for MemoryNet {
 
     fn ports(&mut self) -> Opened<MemoryPorts>
         ensures failed { HasCause self.old.course.faults self.new.course.faults (result ≡ Opened.Failed) }
-        ensures quiet { self.old.course.quiets ≤ self.new.course.quiets }
-        ensures end { self.old.course.ends ≤ self.new.course.ends }
+        ensures no_fault { StaysUnless self.old.course.faults self.new.course.faults (result ≡ Opened.Failed) }
+        ensures quiet { self.new.course.quiets ≡ self.old.course.quiets }
+        ensures end { self.new.course.ends ≡ self.old.course.ends }
 
         // It fails where it is told to and where no ports are left, and nowhere else.
         ensures none_left { (result ≡ Opened.Failed) ↔ (IsTrue (is_next self.old.course.failing) ⊎ (self.old.ports ≡ [])) }
         ensures first { (ports : HeldPorts) → result ≡ Opened.Ports ports → self.old.ports ≡ ports ∷ self.new.ports }
+        ensures ports_kept { result ≡ Opened.Failed → self.new.ports ≡ self.old.ports }
         ensures links { self.new.links ≡ self.old.links }
         ensures counted { self.new.course.failing ≡ after_call self.old.course.failing }
         ensures quiet_kept { self.new.course.quiet ≡ self.old.course.quiet }

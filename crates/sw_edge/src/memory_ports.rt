@@ -1,7 +1,7 @@
 // Ports in memory.
 ghost use Rattle.std.specs.Prelude.{◌≡◌, ◌+◌, ◌<◌, ◌≤◌, ◌↔◌, ◌⊎◌, ◌∷◌, [], Some, length, take, drop, IfOk, IfNone, IfSome, IsTrue, vec_len, vec_capacity};
 ghost use Rattle.sw_edge.specs.Answers.{PacketFits, TakesPacket, Puts};
-ghost use Rattle.sw_edge.specs.Counts.{HasCause};
+ghost use Rattle.sw_edge.specs.Counts.{HasCause, StaysUnless, one_more};
 ghost use Rattle.sw_edge.specs.Memory.{is_next, after_call};
 ghost use Rattle.sw_edge.specs.MemoryNet.{IsNextQuiet, course, HeldPorts};
 
@@ -104,13 +104,17 @@ impl Ports for MemoryPorts {
         ensures takes { TakesPacket (Some self.old.left) (Some self.new.left) result buf.new }
         ensures keeps_sent { self.new.sent ≡ self.old.sent }
         ensures failed { HasCause self.old.course.faults self.new.course.faults (result ≡ Taken.Failed) }
+        ensures no_fault { StaysUnless self.old.course.faults self.new.course.faults (result ≡ Taken.Failed) }
         ensures quiet { HasCause self.old.course.quiets self.new.course.quiets (result ≡ Taken.Quiet) }
+        ensures not_quiet { StaysUnless self.old.course.quiets self.new.course.quiets (result ≡ Taken.Quiet) }
         ensures end { HasCause self.old.course.ends self.new.course.ends (result ≡ Taken.End) }
+        ensures no_end { StaysUnless self.old.course.ends self.new.course.ends (result ≡ Taken.End) }
 
         // It fails where it is told to, and nowhere else, and is quiet where it is told to be, and nowhere else.
         ensures picked { (result ≡ Taken.Failed) ↔ IsTrue (is_next self.old.course.failing) }
         ensures counted { self.new.course.failing ≡ after_call self.old.course.failing }
         ensures picked_quiet { (result ≡ Taken.Quiet) ↔ IsNextQuiet self.old.course }
+        ensures once { result ≡ Taken.Quiet → self.new.course.quiets ≡ one_more self.old.course.quiets }
         ensures room { self.new.room ≡ self.old.room }
     {
         if self.course.fails() {
@@ -132,8 +136,9 @@ impl Ports for MemoryPorts {
         ensures puts { Puts (Some self.old.sent) (Some self.new.sent) result port bytes.now }
         ensures keeps_left { self.new.left ≡ self.old.left }
         ensures failed { HasCause self.old.course.faults self.new.course.faults (result ≡ Sent.Failed) }
-        ensures quiet { self.old.course.quiets ≤ self.new.course.quiets }
-        ensures end { self.old.course.ends ≤ self.new.course.ends }
+        ensures no_fault { StaysUnless self.old.course.faults self.new.course.faults (result ≡ Sent.Failed) }
+        ensures quiet { self.new.course.quiets ≡ self.old.course.quiets }
+        ensures end { self.new.course.ends ≡ self.old.course.ends }
 
         // It fails where it is told to, where there is no room, and where the packet is too long, and nowhere else.
         ensures full { (result ≡ Sent.Failed) ↔ (IsTrue (is_next self.old.course.failing) ⊎ (self.old.room ≡ 0) ⊎ (MAX_OUTPUT < length bytes.now)) }

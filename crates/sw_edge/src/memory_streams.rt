@@ -1,7 +1,7 @@
 // A source and a sink in memory.
 ghost use Rattle.std.specs.Prelude.{◌≡◌, ◌+◌, ◌<◌, ◌≤◌, ◌++◌, ◌↔◌, ◌⊎◌, ℕ, [], Some, length, IfOk, IsTrue};
 ghost use Rattle.sw_edge.specs.Answers.{Fits, Takes, Sends};
-ghost use Rattle.sw_edge.specs.Counts.{HasCause, one_more_if};
+ghost use Rattle.sw_edge.specs.Counts.{HasCause, StaysUnless, one_more_if};
 ghost use Rattle.sw_edge.specs.Memory.{HeldSource, HeldSink, picks, is_next, after_call};
 
 use crate::count::{Picks, raise};
@@ -59,6 +59,7 @@ impl Source for MemorySource {
         ensures fits { Fits result buf.new }
         ensures takes { Takes (Some self.old.unread.left) (Some self.new.unread.left) result buf.new }
         ensures failed { HasCause self.old.faults self.new.faults (result ≡ Got.Failed) }
+        ensures no_fault { StaysUnless self.old.faults self.new.faults (result ≡ Got.Failed) }
 
         // It fails where it is told to, and nowhere else.
         ensures picked { (result ≡ Got.Failed) ↔ IsTrue (is_next self.old.failing) }
@@ -123,6 +124,7 @@ impl Sink for MemorySink {
     fn write(&mut self, bytes: &[u8]) -> Sent
         ensures sends { Sends (Some self.old.written.sent) (Some self.new.written.sent) result bytes.now }
         ensures failed { HasCause self.old.faults self.new.faults (result ≡ Sent.Failed) }
+        ensures no_fault { StaysUnless self.old.faults self.new.faults (result ≡ Sent.Failed) }
 
         // It fails where it is told to and where there is no room, and nowhere else.
         ensures picked { IsTrue (is_next self.old.failing) → (result ≡ Sent.Failed) × (self.new.written ≡ self.old.written) }

@@ -1,12 +1,13 @@
 // Connections of controllers and the ports of the switch.
 ghost use Rattle.std.specs.Prelude.{◌≡◌, ◌<◌, ◌≤◌, ℕ, List, Option, length};
 ghost use Rattle.sw_edge.specs.Answers.{PullFits, Pulls, Sends, PacketFits, TakesPacket, Puts};
-ghost use Rattle.sw_edge.specs.Counts.{HasCause};
+ghost use Rattle.sw_edge.specs.Counts.{HasCause, StaysUnless};
 ghost use Rattle.sw_edge.specs.Told.{Keeps};
 
 use crate::{Accepted, MAX_PACKET, Opened, Pulled, Sent, Taken};
 
-/// One connection of a controller. No call takes memory.
+/// One connection of a controller. No call takes memory. `pull` and `push` may wait; a real link owns what waiting needs,
+/// so no call is handed it.
 pub trait Link {
     /// The bytes that are left to pull, where the link tells them.
     ghost left: { Self → Option (List ℕ) };
@@ -30,19 +31,24 @@ pub trait Link {
         ensures pulls { Pulls (left self.old) (left self.new) result buf.new }
         ensures keeps_sent { Keeps (sent self.old) (sent self.new) }
         ensures failed { HasCause (faults self.old) (faults self.new) (result ≡ Pulled.Failed) }
+        ensures no_fault { StaysUnless (faults self.old) (faults self.new) (result ≡ Pulled.Failed) }
         ensures quiet { HasCause (quiets self.old) (quiets self.new) (result ≡ Pulled.Quiet) }
-        ensures end { HasCause (ends self.old) (ends self.new) (result ≡ Pulled.End) };
+        ensures not_quiet { StaysUnless (quiets self.old) (quiets self.new) (result ≡ Pulled.Quiet) }
+        ensures end { HasCause (ends self.old) (ends self.new) (result ≡ Pulled.End) }
+        ensures no_end { StaysUnless (ends self.old) (ends self.new) (result ≡ Pulled.End) };
 
     /// Hands over all of the bytes. After a fault some first of them may have been handed over.
     fn push(&mut self, bytes: &[u8]) -> Sent
         ensures sends { Sends (sent self.old) (sent self.new) result bytes.now }
         ensures keeps_left { Keeps (left self.old) (left self.new) }
         ensures failed { HasCause (faults self.old) (faults self.new) (result ≡ Sent.Failed) }
-        ensures quiet { quiets self.old ≤ quiets self.new }
-        ensures end { ends self.old ≤ ends self.new };
+        ensures no_fault { StaysUnless (faults self.old) (faults self.new) (result ≡ Sent.Failed) }
+        ensures quiet { quiets self.new ≡ quiets self.old }
+        ensures end { ends self.new ≡ ends self.old };
 }
 
-/// The ports of the switch: packets come in and go out. No call takes memory.
+/// The ports of the switch: packets come in and go out. No call takes memory. `take` and `put` may wait; real ports own
+/// what waiting needs.
 pub trait Ports {
     /// The packets that are left to take, each behind its port, where the ports tell them.
     ghost left: { Self → Option (List (ℕ × List ℕ)) };
@@ -66,19 +72,23 @@ pub trait Ports {
         ensures takes { TakesPacket (left self.old) (left self.new) result buf.new }
         ensures keeps_sent { Keeps (sent self.old) (sent self.new) }
         ensures failed { HasCause (faults self.old) (faults self.new) (result ≡ Taken.Failed) }
+        ensures no_fault { StaysUnless (faults self.old) (faults self.new) (result ≡ Taken.Failed) }
         ensures quiet { HasCause (quiets self.old) (quiets self.new) (result ≡ Taken.Quiet) }
-        ensures end { HasCause (ends self.old) (ends self.new) (result ≡ Taken.End) };
+        ensures not_quiet { StaysUnless (quiets self.old) (quiets self.new) (result ≡ Taken.Quiet) }
+        ensures end { HasCause (ends self.old) (ends self.new) (result ≡ Taken.End) }
+        ensures no_end { StaysUnless (ends self.old) (ends self.new) (result ≡ Taken.End) };
 
     /// Sends one packet out of a port. After a fault nothing was sent.
     fn put(&mut self, port: u16, bytes: &[u8]) -> Sent
         ensures puts { Puts (sent self.old) (sent self.new) result port bytes.now }
         ensures keeps_left { Keeps (left self.old) (left self.new) }
         ensures failed { HasCause (faults self.old) (faults self.new) (result ≡ Sent.Failed) }
-        ensures quiet { quiets self.old ≤ quiets self.new }
-        ensures end { ends self.old ≤ ends self.new };
+        ensures no_fault { StaysUnless (faults self.old) (faults self.new) (result ≡ Sent.Failed) }
+        ensures quiet { quiets self.new ≡ quiets self.old }
+        ensures end { ends self.new ≡ ends self.old };
 }
 
-/// Where links and ports come from. No call takes memory.
+/// Where links and ports come from. No call takes memory. `accept` may wait; a real net owns what waiting needs.
 pub trait Net {
     type Link: Link + Send + Drop;
 
@@ -96,18 +106,23 @@ pub trait Net {
     /// Opens the port of the controllers and the one of the packets.
     fn listen(&mut self, control: u16, packets: u16) -> Sent
         ensures failed { HasCause (faults self.old) (faults self.new) (result ≡ Sent.Failed) }
-        ensures quiet { quiets self.old ≤ quiets self.new }
-        ensures end { ends self.old ≤ ends self.new };
+        ensures no_fault { StaysUnless (faults self.old) (faults self.new) (result ≡ Sent.Failed) }
+        ensures quiet { quiets self.new ≡ quiets self.old }
+        ensures end { ends self.new ≡ ends self.old };
 
     /// Waits for the next link.
     fn accept(&mut self) -> Accepted<Self::Link>
         ensures failed { HasCause (faults self.old) (faults self.new) (result ≡ Accepted.Failed) }
+        ensures no_fault { StaysUnless (faults self.old) (faults self.new) (result ≡ Accepted.Failed) }
         ensures quiet { HasCause (quiets self.old) (quiets self.new) (result ≡ Accepted.Quiet) }
-        ensures end { HasCause (ends self.old) (ends self.new) (result ≡ Accepted.End) };
+        ensures not_quiet { StaysUnless (quiets self.old) (quiets self.new) (result ≡ Accepted.Quiet) }
+        ensures end { HasCause (ends self.old) (ends self.new) (result ≡ Accepted.End) }
+        ensures no_end { StaysUnless (ends self.old) (ends self.new) (result ≡ Accepted.End) };
 
     /// The ports for one worker.
     fn ports(&mut self) -> Opened<Self::Ports>
         ensures failed { HasCause (faults self.old) (faults self.new) (result ≡ Opened.Failed) }
-        ensures quiet { quiets self.old ≤ quiets self.new }
-        ensures end { ends self.old ≤ ends self.new };
+        ensures no_fault { StaysUnless (faults self.old) (faults self.new) (result ≡ Opened.Failed) }
+        ensures quiet { quiets self.new ≡ quiets self.old }
+        ensures end { ends self.new ≡ ends self.old };
 }

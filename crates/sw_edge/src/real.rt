@@ -1,5 +1,5 @@
 // The standard streams and the clock of the system.
-ghost use Rattle.std.specs.Prelude.{◌≡◌, ◌≤◌, ℕ, length, take};
+ghost use Rattle.std.specs.Prelude.{◌≡◌, ◌-◌, ◌^◌, ◌≤◌, ℕ, length, min, take};
 ghost use Rattle.std.specs.Io.{ReadsAtMost};
 ghost use Rattle.std.specs.Io.KnownBytes.{Appends, ReadConsumes};
 ghost use Rattle.sw_edge.specs.Real.{Metered};
@@ -148,13 +148,23 @@ impl<C> RealClock<C> {
     }
 }
 
+// The nanoseconds of a duration, where they fit 64 bits, else the most.
+fn nanoseconds(passed: u128) -> u64
+    ensures { result ≡ min passed (2 ^ 64 - 1) }
+{
+    if passed < 0x1_0000_0000_0000_0000 {
+        passed as u64
+    } else {
+        u64::MAX
+    }
+}
+
 impl<C: time::Clock> Clock for RealClock<C> {
     ghost last = { λ c. c };
 
     fn now(&mut self) -> u64 {
         if let Ok(passed) = self.clock.monotonic() {
-            let nanos = u64::try_from(passed.as_nanos()).unwrap_or(u64::MAX);
-            self.last = self.last.max(nanos);
+            self.last = self.last.max(nanoseconds(passed.as_nanos()));
         }
         self.last
     }

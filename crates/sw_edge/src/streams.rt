@@ -1,11 +1,11 @@
 // A stream of bytes that is read and one that is written.
 ghost use Rattle.std.specs.Prelude.{◌≡◌, ◌<◌, ℕ, List, Option, length};
 ghost use Rattle.sw_edge.specs.Answers.{Fits, Takes, Sends};
-ghost use Rattle.sw_edge.specs.Counts.{HasCause};
+ghost use Rattle.sw_edge.specs.Counts.{HasCause, StaysUnless};
 
 use crate::{Got, Sent};
 
-/// Bytes that are read from the front. No call takes memory.
+/// Bytes that are read from the front. No call takes memory. `read` may wait for bytes.
 pub trait Source {
     /// The bytes that are left to read, where the source tells them.
     ghost left: { Self → Option (List ℕ) };
@@ -18,10 +18,11 @@ pub trait Source {
         requires { 0 < length buf.old }
         ensures fits { Fits result buf.new }
         ensures takes { Takes (left self.old) (left self.new) result buf.new }
-        ensures failed { HasCause (faults self.old) (faults self.new) (result ≡ Got.Failed) };
+        ensures failed { HasCause (faults self.old) (faults self.new) (result ≡ Got.Failed) }
+        ensures no_fault { StaysUnless (faults self.old) (faults self.new) (result ≡ Got.Failed) };
 }
 
-/// A place that takes bytes behind those that it has. No call takes memory.
+/// A place that takes bytes behind those that it has. No call takes memory. `write` may wait for room.
 pub trait Sink {
     /// The bytes that were sent, where the sink tells them.
     ghost sent: { Self → Option (List ℕ) };
@@ -32,5 +33,6 @@ pub trait Sink {
     /// Hands over all of the bytes. After a fault some first of them may have been handed over.
     fn write(&mut self, bytes: &[u8]) -> Sent
         ensures sends { Sends (sent self.old) (sent self.new) result bytes.now }
-        ensures failed { HasCause (faults self.old) (faults self.new) (result ≡ Sent.Failed) };
+        ensures failed { HasCause (faults self.old) (faults self.new) (result ≡ Sent.Failed) }
+        ensures no_fault { StaysUnless (faults self.old) (faults self.new) (result ≡ Sent.Failed) };
 }

@@ -1,6 +1,6 @@
 // The clock, the wish to stop and the order of a replay's turns.
 ghost use Rattle.std.specs.Prelude.{◌≡◌, ◌≤◌, ℕ, IsTrue};
-ghost use Rattle.sw_edge.specs.Counts.{HasCause};
+ghost use Rattle.sw_edge.specs.Counts.{HasCause, StaysUnless};
 
 use crate::Who;
 
@@ -22,7 +22,8 @@ pub trait Stop {
 
     /// Whether the loop is to end.
     fn asked(&mut self) -> bool
-        ensures yes { HasCause (yeses self.old) (yeses self.new) (IsTrue result) };
+        ensures yes { HasCause (yeses self.old) (yeses self.new) (IsTrue result) }
+        ensures no_yes { StaysUnless (yeses self.old) (yeses self.new) (IsTrue result) };
 }
 
 /// A place at which the lanes of a free replay may be held up, so that a test picks their order.

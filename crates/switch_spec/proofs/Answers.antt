@@ -1,18 +1,23 @@
 -- What holds of each answer.
-use Rattle.std.proofs.Common.{arith, suc, ◌+◌, ◌≤◌, ◌≡◌, ℕ, Bool, true, false, not, List, [], ◌∷◌, ◌++◌, length, map, fold, Option, Some, None, Result, Ok, Err, is_some, ◌==◌, nat_lt, IfErr, refl, ap, ◌∙◌, sym, cond, if◌then◌else◌, option_map}
+use Rattle.std.proofs.Common.{arith, suc, ◌+◌, ◌≤◌, ◌≡◌, ℕ, Bool, true, false, not, List, [], ◌∷◌, ◌++◌, length, map, fold, Option, Some, None, Result, Ok, Err, is_some, ◌==◌, nat_lt, IfErr, refl, ap, ◌∙◌, sym, if◌then◌else◌}
 use Rattle.std.specs.List.{filter_map}
 use Rattle.std.specs.Result.{result_ok}
 use Rattle.p4_types.specs.declared.calls.Call.{Call}
 use Rattle.p4_types.specs.declared.calls.Call.TheVariants as calls
+use Rattle.p4_types.specs.declared.calls.Method.{Method}
+use Rattle.p4_types.specs.declared.calls.Method.TheVariants as methods
+use Rattle.p4_types.specs.CodeNumber.{arbitration_code}
+use Rattle.p4_types.specs.declared.code.ArbitrationRule.{ArbitrationRule}
+use Rattle.p4_types.specs.declared.code.ArbitrationRule.TheVariants as arbitration
 use Rattle.p4_types.specs.declared.code.Cause.{Cause}
 use Rattle.p4_types.specs.declared.code.Code.{Code}
 use Rattle.p4_types.specs.declared.code.Code.TheVariants as codes
 use Rattle.p4_types.specs.declared.info.Info.{Info}
+use Rattle.p4_types.specs.declared.messages.Error.{Error}
 use Rattle.p4_types.specs.declared.messages.Entity.{Entity}
 use Rattle.p4_types.specs.declared.messages.Entity.TheVariants as entities
 use Rattle.p4_types.specs.declared.messages.ReadRequest.{ReadRequest}
 use Rattle.p4_types.specs.declared.messages.TableEntry.{TableEntry}
-use Rattle.p4_types.specs.declared.events.Event.{Event}
 use Rattle.p4_types.specs.declared.events.Event.TheVariants as events
 use Rattle.p4_types.specs.declared.events.Origin.{Origin}
 use Rattle.p4_types.specs.declared.info.Table.{Table}
@@ -23,14 +28,15 @@ use Rattle.p4_types.specs.declared.messages.Uint128.{Uint128}
 use Rattle.p4_types.specs.declared.messages.Update.{Update}
 use Rattle.p4_types.specs.declared.messages.WriteRequest.{WriteRequest}
 use Rattle.p4_types.specs.declared.table.Change.{Change}
-use Rattle.p4_types.specs.declared.table.Change.TheVariants as changes
-use Rattle.p4_types.specs.declared.table.EntryChange.{EntryChange}
 use Rattle.role_arbiter.specs.declared.sessions.Session.{Session}
 use Rattle.role_arbiter.specs.Arbitration.{cause, asked}
 use Rattle.role_arbiter.specs.State.{session_in}
-use Rattle.switch_spec.specs.Answer.{Answer, LaneCall, plain, write_reply, write_refusal, write_unless, continued, all_or_nothing, batch, origin, has_failed, outcomes, state_after, is_atomicity, is_atomic, read_reply, arbitration_unless, unserved_answer, stream_answer, leave_of, answer_to, answer, called}
-use Rattle.switch_spec.specs.Control.{Control, Plane, primary, is_of_primary, with_roles, inserted_in, changed, changed_unless, changed_in, change_applied, outcome, applied, MayChanges, Legal}
-use Rattle.switch_spec.specs.Objects.{table_of}
+use Rattle.switch_spec.specs.Answer.{Answer, Figures, LaneCall, plain, write_reply, write_refusal, write_unless, continued, all_or_nothing, batch, origin, has_failed, outcomes, state_after, atomicity_of, is_atomic, unreadable, read_reply, arbitration_unless, unserved_answer, stream_answer, leave_of, answer_to, answer, called, EventsIgnoreFigures}
+use Rattle.plane_spec.specs.Config.{Event}
+use Rattle.plane_spec.specs.Legal.{MayChanges, Legal}
+use Rattle.plane_spec.specs.Objects.{table_of}
+use Rattle.plane_spec.specs.Planes.{Control, Plane, target, primary, is_of_primary, with_roles, change_applied, outcome, applied}
+use Rattle.plane_spec.proofs.Steady.{change_steady, fold_closed, fold_next}
 use Rattle.switch_spec.specs.Reading.{entry_refusal_in, entity_refusal, first_of, read_unless, read_in, read_result}
 use Rattle.switch_spec.specs.History.{is_unavailable, steps_of}
 
@@ -44,48 +50,9 @@ pub record IsSound (c : Control) (a : Answer) : Type 0 where
   pub few_steps : length (steps_of a.events) ≤ 4096
   pub few_numbers : (applied c a.events).next ≤ c.next + 4096
 
--- A change leaves open what is open and the roles as they are, and draws one number at most.
-pub record IsSteady (c d : Control) : Type 0 where
-  pub closed : d.closed ≡ c.closed
-  pub roles : d.roles ≡ c.roles
-  pub next : d.next ≤ c.next + 1
-
-steady_refl : (c : Control) → IsSteady c c
-steady_refl c = record { closed = refl; roles = refl; next = omega arith }
-
-inserted_steady : (o : Option Table) (c : Control) (plane : Plane) (change : EntryChange) → c.plane ≡ Some plane → IsSteady c (inserted_in o c plane change)
-inserted_steady None c plane change is = steady_refl c
-inserted_steady (Some table) c plane change is = record { closed = refl; roles = refl; next = omega arith }
-
-changed_steady : (change : Change) (c : Control) (plane : Plane) → c.plane ≡ Some plane → IsSteady c (changed c plane change)
-changed_steady (changes.InsertEntry change) c plane is = inserted_steady _ c plane change is
-changed_steady (changes.ModifyEntry change) c plane is = record { closed = refl; roles = refl; next = omega arith }
-changed_steady (changes.DeleteEntry name) c plane is = record { closed = refl; roles = refl; next = omega arith }
-changed_steady (changes.ModifyDefault table action) c plane is = record { closed = refl; roles = refl; next = omega arith }
-
-unless_steady : (o : Option Cause) (change : Change) (c : Control) (plane : Plane) → c.plane ≡ Some plane → IsSteady c (changed_unless o c plane change)
-unless_steady None change c plane is = changed_steady change c plane is
-unless_steady (Some cause) change c plane is = steady_refl c
-
-in_steady : (o : Option Plane) (change : Change) (c : Control) → c.plane ≡ o → IsSteady c (changed_in o c change)
-in_steady None change c is = steady_refl c
-in_steady (Some plane) change c is = unless_steady _ change c plane is
-
-pub change_steady : (change : Change) (c : Control) → IsSteady c (change_applied c change)
-unfolding change_applied
-change_steady change c = in_steady c.plane change c refl
-
 -- as the roles stay, so do the primaries
 still_of_primary : (c d : Control) (role : ℕ) (id : Uint128) → d.roles ≡ c.roles → is_of_primary (primary d role) id ≡ is_of_primary (primary c role) id
 still_of_primary c d role id is = ap (λ roles. is_of_primary (primary (with_roles c roles) role) id) is
-
-fold_closed : (list : List Change) (c : Control) → (fold change_applied c list).closed ≡ c.closed
-fold_closed [] c = refl
-fold_closed (change ∷ list) c = fold_closed list (change_applied c change) ∙ (change_steady change c).closed
-
-fold_next : (list : List Change) (c : Control) → (fold change_applied c list).next ≤ c.next + length list
-fold_next [] c = omega arith
-fold_next (change ∷ list) c = omega (arith, fold_next list (change_applied c change), (change_steady change c).next)
 
 -- each change is an event of its own
 abbrev pub each : Origin → List Change → List Event
@@ -222,13 +189,13 @@ not_lt m n h = grind (arith, h)
 
 passed : (c : Control) (request : WriteRequest) → write_refusal c request ≡ None → HasPassed c request
 passed c request h =
-    let parts = passed_by (request.device_id == c.device) (is_of_primary (primary c request.role_id) request.election_id) (is_some c.plane) (is_atomicity request.atomicity) (nat_lt 4096 (length request.updates)) h in record { primary = parts.0; size = not_lt _ _ parts.1 }
+    let parts = passed_by (request.device_id == c.device) (is_of_primary (primary c request.role_id) request.election_id) (is_some (target c)) (is_some (atomicity_of request.atomicity)) (nat_lt 4096 (length request.updates)) h in record { primary = parts.0; size = not_lt _ _ parts.1 }
 
-reply_available : (b : Bool) (errors : List (List ℕ)) → is_unavailable (write_reply b errors).code ≡ false
+reply_available : (b : Bool) (errors : List Error) → is_unavailable (write_reply b errors).code ≡ false
 reply_available true errors = refl
 reply_available false errors = refl
 
-reply_packet : (b : Bool) (errors : List (List ℕ)) → (write_reply b errors).packet ≡ None
+reply_packet : (b : Bool) (errors : List Error) → (write_reply b errors).packet ≡ None
 reply_packet true errors = refl
 reply_packet false errors = refl
 
@@ -292,7 +259,7 @@ written_sound false c by updates primary size = continued_sound c by updates pri
 write_sound : (o : Option Code) (c : Control) (lane k : ℕ) (request : WriteRequest) → write_refusal c request ≡ o → Available o → IsSound c (write_unless o c lane k request)
 write_sound (Some code) c lane k request is available = plain_sound c code _ available
 write_sound None c lane k request is available =
-    let h = passed c request is in written_sound (is_atomic request.atomicity) c (origin lane k request) request.updates h.primary h.size
+    let h = passed c request is in written_sound (is_atomic (atomicity_of request.atomicity)) c (origin lane k request) request.updates h.primary h.size
 
 unless_available : (o : Option Code) (plane : Plane) (list : List (Option Entity)) → Available o → IfErr (read_unless o plane list) (λ code. is_unavailable code ≡ false)
 unless_available None plane list h = tt
@@ -300,7 +267,7 @@ unless_available (Some code) plane list h = h
 
 plane_available : (o : Option Plane) (request : ReadRequest) → IfErr (read_in o request) (λ code. is_unavailable code ≡ false)
 plane_available None request = refl
-plane_available (Some plane) request = unless_available _ plane request.entities (first_available plane.info request.entities)
+plane_available (Some plane) request = unless_available _ plane request.entities (first_available plane.config.info request.entities)
 
 device_available : (b : Bool) (r : Result (List (List ℕ)) Code) → IfErr r (λ code. is_unavailable code ≡ false) → IfErr (if b then r else Err codes.NotFound) (λ code. is_unavailable code ≡ false)
 device_available true r h = h
@@ -308,37 +275,47 @@ device_available false r h = refl
 
 read_available : (c : Control) (request : ReadRequest) → IfErr (read_result c request) (λ code. is_unavailable code ≡ false)
 unfolding read_result
-read_available c request = device_available (request.device_id == c.device) _ (plane_available c.plane request)
+read_available c request = device_available (request.device_id == c.device) _ (plane_available (target c) request)
 
 read_sound : (c : Control) (r : Result (List (List ℕ)) Code) → IfErr r (λ code. is_unavailable code ≡ false) → IsSound c (read_reply r)
 read_sound c (Ok messages) h = plain_sound c codes.Ok messages refl
 read_sound c (Err code) h = plain_sound c code _ h
 
--- the refusals of an arbitration, by the rules that it breaks
-arbitration_available : (a b c d : Bool) → let refused : Option Cause = cond a (Some (record { rule = 2; code = codes.FailedPrecondition })) (cond b (Some (record { rule = 3; code = codes.InvalidArgument }))
-    (cond c (Some (record { rule = 4; code = codes.InvalidArgument })) (cond d (Some (record { rule = 5; code = codes.ResourceExhausted })) None))) in Available (option_map (λ x. x.code) refused)
-arbitration_available true b c d = refl
-arbitration_available false true c d = refl
-arbitration_available false false true d = refl
-arbitration_available false false false true = refl
-arbitration_available false false false false = tt
+-- no rule of an arbitration refuses for memory
+rule_available : (rule : ArbitrationRule) → is_unavailable (arbitration_code rule) ≡ false
+rule_available arbitration.A1 = refl
+rule_available arbitration.A2 = refl
+rule_available arbitration.A3 = refl
+rule_available arbitration.A4 = refl
+rule_available arbitration.A5 = refl
 
-arbitration_unless_sound : (o : Option Cause) (c : Control) (lane k : ℕ) (update : MasterArbitrationUpdate) → cause c.roles lane update ≡ o → Available (option_map (λ x. x.code) o)
+arbitration_unless_sound : (o : Option ArbitrationRule) (c : Control) (lane k : ℕ) (update : MasterArbitrationUpdate) → (o ≡ None → cause c.roles lane update ≡ None)
     → IsSound c (arbitration_unless o c lane k update)
-arbitration_unless_sound (Some refused) c lane k update is available = plain_sound c refused.code [] available
-arbitration_unless_sound None c lane k update is available = record {
+arbitration_unless_sound (Some rule) c lane k update is = plain_sound c (arbitration_code rule) [] (rule_available rule)
+arbitration_unless_sound None c lane k update is = record {
   available = refl;
   no_packet = refl;
   all_steps = refl;
-  legal = λ alive rest later. ((alive, record { update = update; asks = refl; no_cause = is }), later);
+  legal = λ alive rest later. ((alive, record { update = update; asks = refl; no_cause = is refl }), later);
   still_open = λ alive. alive;
   few_steps = omega arith;
   few_numbers = omega arith;
 }
 
-arbitration_sound : (b : Bool) (c : Control) (lane k : ℕ) (update : MasterArbitrationUpdate) → IsSound c (if b then arbitration_unless (cause c.roles lane update) c lane k update else plain codes.NotFound [])
-arbitration_sound true c lane k update = arbitration_unless_sound _ c lane k update refl (arbitration_available _ _ _ _)
-arbitration_sound false c lane k update = plain_sound c codes.NotFound [] refl
+by_device : (b : Bool) (o : Option ArbitrationRule) → (if b then o else Some arbitration.A1) ≡ None → o ≡ None
+by_device true o h = h
+by_device false o h = absurd (cc)
+
+arbitration_sound : (c : Control) (lane k : ℕ) (update : MasterArbitrationUpdate) → IsSound c (arbitration_unless (if update.device_id == c.device then cause c.roles lane update else Some arbitration.A1) c lane k update)
+arbitration_sound c lane k update = arbitration_unless_sound _ c lane k update (by_device (update.device_id == c.device) (cause c.roles lane update))
+
+unreadable_sound : (c : Control) (method : Method) → IsSound c (unreadable method)
+unreadable_sound c methods.Write = plain_sound c codes.InvalidArgument _ refl
+unreadable_sound c methods.Read = plain_sound c codes.InvalidArgument _ refl
+unreadable_sound c methods.SetForwardingPipelineConfig = plain_sound c codes.InvalidArgument _ refl
+unreadable_sound c methods.GetForwardingPipelineConfig = plain_sound c codes.InvalidArgument _ refl
+unreadable_sound c methods.StreamChannel = plain_sound c codes.InvalidArgument [] refl
+unreadable_sound c methods.Capabilities = plain_sound c codes.InvalidArgument _ refl
 
 unserved_sound : (c : Control) (lane : ℕ) → IsSound c (unserved_answer lane)
 unserved_sound c lane = record {
@@ -353,7 +330,7 @@ unserved_sound c lane = record {
 
 stream_sound : (message : Option StreamMessageRequest) (c : Control) (lane k : ℕ) → IsSound c (stream_answer c lane k message)
 stream_sound None c lane k = plain_sound c codes.InvalidArgument [] refl
-stream_sound (Some (requests.Arbitration update)) c lane k = arbitration_sound (update.device_id == c.device) c lane k update
+stream_sound (Some (requests.Arbitration update)) c lane k = arbitration_sound c lane k update
 stream_sound (Some (requests.Packet packet)) c lane k = unserved_sound c lane
 stream_sound (Some (requests.DigestAck acknowledged)) c lane k = plain_sound c codes.Ok [] refl
 stream_sound (Some (requests.Other other)) c lane k = unserved_sound c lane
@@ -370,16 +347,31 @@ leave_sound (Some session) c lane k is = record {
   few_numbers = omega arith;
 }
 
-pub answer_to_sound : (call : Call) (c : Control) (lane k : ℕ) → IsSound c (answer_to c lane k call)
-answer_to_sound (calls.Write request) c lane k = write_sound _ c lane k request refl (write_available (request.device_id == c.device) (is_of_primary (primary c request.role_id) request.election_id) (is_some c.plane) (is_atomicity request.atomicity) (nat_lt 4096 (length request.updates)))
-answer_to_sound (calls.Read request) c lane k = read_sound c _ (read_available c request)
-answer_to_sound (calls.Set request) c lane k = plain_sound c codes.Unimplemented _ refl
-answer_to_sound (calls.Get request) c lane k = plain_sound c codes.Unimplemented _ refl
-answer_to_sound (calls.Stream message) c lane k = stream_sound message c lane k
-answer_to_sound calls.Capabilities c lane k = plain_sound c codes.Ok _ refl
-answer_to_sound (calls.Unreadable method) c lane k = plain_sound c codes.InvalidArgument _ refl
-answer_to_sound calls.Leave c lane k = leave_sound _ c lane k refl
+pub answer_to_sound : (call : Call) (c : Control) (g : Figures) (lane k : ℕ) → IsSound c (answer_to c g lane k call)
+answer_to_sound (calls.Write request) c g lane k = write_sound _ c lane k request refl (write_available (request.device_id == c.device) (is_of_primary (primary c request.role_id) request.election_id) (is_some (target c)) (is_some (atomicity_of request.atomicity)) (nat_lt 4096 (length request.updates)))
+answer_to_sound (calls.Read request) c g lane k = read_sound c _ (read_available c request)
+answer_to_sound (calls.Set request) c g lane k = plain_sound c codes.Unimplemented _ refl
+answer_to_sound (calls.Get request) c g lane k = plain_sound c codes.Unimplemented _ refl
+answer_to_sound (calls.Stream message) c g lane k = stream_sound message c lane k
+answer_to_sound calls.Capabilities c g lane k = plain_sound c codes.Ok _ refl
+answer_to_sound (calls.Unreadable method) c g lane k = unreadable_sound c method
+answer_to_sound calls.Leave c g lane k = leave_sound _ c lane k refl
 
-pub answer_sound : (c : Control) (lane k : ℕ) (call : LaneCall) → IsSound c (answer c lane k call)
+pub answer_sound : (c : Control) (g : Figures) (lane k : ℕ) (call : LaneCall) → IsSound c (answer c g lane k call)
 unfolding answer
-answer_sound c lane k call = answer_to_sound (called call) c lane k
+answer_sound c g lane k call = answer_to_sound (called call) c g lane k
+
+ignore_in : (call : Call) (c : Control) (g h : Figures) (lane k : ℕ) → (answer_to c g lane k call).events ≡ (answer_to c h lane k call).events
+ignore_in (calls.Write request) c g h lane k = refl
+ignore_in (calls.Read request) c g h lane k = refl
+ignore_in (calls.Set request) c g h lane k = refl
+ignore_in (calls.Get request) c g h lane k = refl
+ignore_in (calls.Stream message) c g h lane k = refl
+ignore_in calls.Capabilities c g h lane k = refl
+ignore_in (calls.Unreadable method) c g h lane k = refl
+ignore_in calls.Leave c g h lane k = refl
+
+-- the events of a call do not depend on the figures
+pub events_ignore : EventsIgnoreFigures
+unfolding answer
+events_ignore c g h lane k call = ignore_in (called call) c g h lane k

@@ -4,19 +4,22 @@ use Rattle.std.proofs.lemmas.List.Elements.{filter_map-append}
 use Rattle.std.proofs.lemmas.List.Sums.{fold-append}
 use Rattle.std.proofs.Math.Seq.{take-append_seam}
 use Rattle.std.specs.List.{zip, AllByRecursion}
-use Rattle.p4_types.specs.declared.events.Event.{Event}
 use Rattle.p4_types.specs.declared.events.Event.TheVariants as events
 use Rattle.p4_types.specs.declared.events.Start.{Start}
 use Rattle.p4_types.specs.declared.tape.Who.TheVariants.{Worker}
-use Rattle.switch_spec.specs.Answer.{LaneCall}
-use Rattle.switch_spec.specs.Control.{opened, apply, applied, Legal, after}
+use Rattle.switch_spec.specs.Answer.{no_figures, LaneCall}
+use Rattle.plane_spec.specs.Config.{Event}
+use Rattle.plane_spec.specs.Legal.{Legal}
+use Rattle.plane_spec.specs.Planes.{Control, opened, apply, applied, after}
 use Rattle.switch_spec.specs.History.{journal_events, published, step_of, steps_of}
-use Rattle.switch_spec.specs.Meaning.{meaning, record_of}
+use Rattle.switch_spec.specs.Counts.{Carried, counts_in, cells_in}
+use Rattle.switch_spec.specs.Meaning as meaning
 use Rattle.switch_spec.specs.Play.{Played, begun, next_call, next_packet, play_call, play_refusal, play_packet, Turn, Answers, Refuses, Carries, items_of, played, played_report}
-use Rattle.switch_spec.specs.Report.{Carried, Fits, made_with_packet, IsRun, IsLockstepReport, report_of}
+use Rattle.switch_spec.specs.Report.{Fits, made_with_packet, IsRun, IsLockstepReport, final, report_of}
 use Rattle.switch_spec.specs.ReportText.{report_text}
 use Rattle.switch_spec.proofs.Answers.{answer_sound}
-use Rattle.switch_spec.proofs.Following.{calls_follow, packets_follow, none_of_controllers, no_packets_out}
+use Rattle.switch_spec.proofs.Following.{NoPackets, calls_follow, packets_follow, none_of_controllers, no_packets, no_packets_out}
+use Rattle.switch_spec.proofs.NoCounts.{no_counts, no_cells}
 use Rattle.switch_spec.proofs.Playing.{call_events, made, carried, own_events_of, journal_played, records_played, lockstep_played, history_played, numbered_played, in_turn_played}
 
 -- the events that the rest of a tape adds
@@ -38,7 +41,7 @@ events_played p (Carries lane port packet ∷ tape) = events_played (play_packet
 pub legal_played : (p : Played) (tape : List Turn) → p.control.closed ≡ false → Legal p.control (events_from p tape ++ events.Close ∷ [])
 legal_played p [] h = (h, tt)
 legal_played p (Answers lane call ∷ tape) h =
-    let sound = answer_sound p.control lane (next_call lane p) call in
+    let sound = answer_sound p.control no_figures lane (next_call lane p) call in
     let P : List Event → Type 0 = λ list. Legal p.control list in
     subst P (sym (append_assoc (call_events p lane call) (events_from (play_call p lane call) tape) (events.Close ∷ [])))
     (sound.legal h _ (legal_played (play_call p lane call) tape (sound.still_open h)))
@@ -54,7 +57,7 @@ pub record IsAfter (start : Start) (list : List Event) (p : Played) : Type 0 whe
 pub after_call : (start : Start) (list : List Event) (p : Played) (lane : ℕ) (call : LaneCall) → IsAfter start list p
     → IsAfter start (list ++ call_events p lane call) (play_call p lane call)
 after_call start list p lane call h =
-    let sound = answer_sound p.control lane (next_call lane p) call in
+    let sound = answer_sound p.control no_figures lane (next_call lane p) call in
     record {
       control = ap (λ c. applied c (call_events p lane call)) h.control ∙ sym (fold-append apply (opened start) list (call_events p lane call));
       steps = omega (arith, h.steps, sound.all_steps, length-append list (call_events p lane call));
@@ -83,7 +86,7 @@ fits_played start whole p (Carries lane port packet ∷ tape) list h is =
     let rest : List Event = events_from (play_packet p lane port packet) tape ++ events.Close ∷ [] in (
       record {
         in_list = let P : List Event → Type 0 = λ all. p.steps ≤ length (steps_of all) in subst P (sym is) (in_list_after start list rest p h);
-        meant = ap (λ c. record_of (Worker lane) (next_packet lane p) p.steps (meaning c port packet)) (sym (ap (λ all. after start all p.steps) is ∙ state_after start list rest p h));
+        meant = ap (λ (c : Control). meaning.carried (Worker lane) (next_packet lane p) p.steps c port packet) (sym (ap (λ all. after start all p.steps) is ∙ state_after start list rest p h));
       },
       fits_played start whole (play_packet p lane port packet) tape list (record { control = h.control; steps = h.steps; all_steps = h.all_steps }) is,
     )
@@ -92,27 +95,36 @@ fits_played start whole p (Carries lane port packet ∷ tape) list h is =
 pub run_played : (start : Start) (tape : List Turn) → IsRun start (items_of tape) (made (begun start) tape) (carried (begun start) tape)
 run_played start tape =
     let p : Played = begun start in
-    let follows = lockstep_played p tape in
+    let follows = lockstep_played start p tape in
+    let none : NoPackets (made p tape) = no_packets p.control p.steps (made p tape) (history_played p tape) in
     let end_is : published start (made p tape) ≡ events_from p tape ++ events.Close ∷ [] = ap (λ list. list ++ events.Close ∷ []) (events_played p tape) in
     let P : List Event → Type 0 = λ list. Legal (opened start) list in
     record {
-      calls = λ lane. calls_follow lane 0 (items_of tape) _ _ follows;
+      calls = λ lane. calls_follow start lane 0 (items_of tape) _ _ follows;
       numbered = numbered_played p tape;
       history = history_played p tape;
       legal = subst P (sym end_is) (legal_played p tape refl);
-      packets = λ lane. packets_follow lane 0 (items_of tape) _ _ follows;
-      out = λ lane. ap (map (λ c. c.arrival)) (none_of_controllers lane 0 (items_of tape) _ _ follows) ∙ sym (no_packets_out start lane (opened start) 0 _ (history_played p tape));
+      packets = λ lane. packets_follow start lane 0 (items_of tape) _ _ follows none;
+      out = λ lane. ap (map (λ c. c.arrival)) (none_of_controllers start lane 0 (items_of tape) _ _ follows none) ∙ sym (no_packets_out start lane _ none);
       covers = λ lane.
           let Q : List Carried → Type 0 = λ list. AllByRecursion (λ x. x.1.entry.reply.steps ≤ x.0.outcome.steps) (zip list (made_with_packet lane (made p tape))) in
-          subst Q (sym (none_of_controllers lane 0 (items_of tape) _ _ follows)) tt;
+          subst Q (sym (none_of_controllers start lane 0 (items_of tape) _ _ follows none)) tt;
       in_turn = in_turn_played p tape tt;
       fits = fits_played start _ p tape [] (record { control = refl; steps = refl; all_steps = refl }) end_is;
     }
 
-pub report_played : (start : Start) (tape : List Turn) → played_report (played start tape) ≡ report_of (made (begun start) tape) (carried (begun start) tape)
+-- at its end nothing is counted
+pub nothing_counted : (start : Start) (tape : List Turn) (records : List Carried) → (counts_in (final start (made (begun start) tape)).active records ≡ []) × (cells_in (final start (made (begun start) tape)).active records ≡ [])
+nothing_counted start tape records =
+    let legal = (run_played start tape).legal in (no_counts start _ legal records, no_cells start _ legal records)
+
+pub report_played : (start : Start) (tape : List Turn) → played_report (played start tape) ≡ report_of start (items_of tape) (made (begun start) tape) (carried (begun start) tape)
 report_played start tape =
+    let none = nothing_counted start tape (carried (begun start) tape) in
     ap (λ p. record { journal = p; sent = []; records = (played start tape).records; counts = []; cells = [] }) (journal_played (begun start) tape)
     ∙ ap (λ r. record { journal = map (λ m. m.entry) (made (begun start) tape); sent = []; records = r; counts = []; cells = [] }) (records_played (begun start) tape)
+    ∙ ap (λ list. record { journal = map (λ m. m.entry) (made (begun start) tape); sent = []; records = map (λ c. c.outcome) (carried (begun start) tape); counts = list; cells = [] }) (sym none.0)
+    ∙ ap (λ list. record { journal = map (λ m. m.entry) (made (begun start) tape); sent = []; records = map (λ c. c.outcome) (carried (begun start) tape); counts = counts_in (final start (made (begun start) tape)).active (carried (begun start) tape); cells = list }) (sym none.1)
 
 -- its text is the lockstep report of the tape
 pub played_is_report : (start : Start) (tape : List Turn) → IsLockstepReport start (items_of tape) (report_text (played_report (played start tape)))
@@ -123,5 +135,5 @@ played_is_report start tape = record {
     run = run_played start tape;
     written = ap report_text (report_played start tape);
   };
-  lockstep = lockstep_played (begun start) tape;
+  lockstep = lockstep_played start (begun start) tape;
 }

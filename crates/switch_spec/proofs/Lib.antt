@@ -2,11 +2,11 @@ pub mod Answers
 pub mod Determined
 pub mod Fitting
 pub mod Following
-pub mod Lists
 pub mod Playing
 pub mod Readers
 pub mod TapeItems
 pub mod TapeRecords
 pub mod Tapes
 pub mod WorkedRows
-pub mod SoundRoles
+pub mod NoCounts
+pub mod Standing

@@ -1,38 +1,40 @@
 -- The run in one pass over the tape is a run of the tape.
-use Rattle.std.proofs.Common.{◌≡◌, ℕ, ◌+◌, ◌≤◌, List, [], ◌∷◌, ◌++◌, length, map, refl, ◌∙◌, sym, subst, append_assoc, add-zero, arith}
+use Rattle.std.proofs.Common.{◌≡◌, ℕ, ◌+◌, ◌≤◌, List, [], ◌∷◌, ◌++◌, length, map, Option, None, option_map, refl, ap, ◌∙◌, sym, subst, append_assoc, add-zero, arith}
 use Rattle.std.proofs.lemmas.List.{append-nil}
 use Rattle.std.proofs.lemmas.Bool.{cond-false}
 use Rattle.std.specs.Prelude.{fold}
 use Rattle.std.specs.List.{AllByRecursion}
-use Rattle.p4_types.specs.declared.events.Event.{Event}
+use Rattle.p4_types.specs.declared.events.Start.{Start}
+use Rattle.plane_spec.specs.Config.{Event}
 use Rattle.p4_types.specs.declared.tape.Who.TheVariants.{Worker}
 use Rattle.p4_types.specs.declared.tape.TapeRecord.{TapeRecord}
-use Rattle.switch_spec.specs.Answer.{LaneCall, Asks, Leaves, answer}
-use Rattle.switch_spec.specs.Control.{Control, applied}
+use Rattle.switch_spec.specs.Answer.{no_figures, LaneCall, Asks, Leaves, answer}
+use Rattle.plane_spec.specs.Planes.{Control, applied}
 use Rattle.switch_spec.specs.History.{Made, History, Numbered, own_events, steps_of, expected, answered, refused_for_memory}
-use Rattle.switch_spec.specs.Meaning.{meaning, record_of}
+use Rattle.switch_spec.specs.Counts.{Arrival, Carried}
+use Rattle.switch_spec.specs.Meaning as meaning
 use Rattle.switch_spec.specs.Play.{Played, next_call, next_packet, play_call, play_refusal, play_packet, Turn, Answers, Refuses, Carries, call_item, items_of, play}
-use Rattle.switch_spec.specs.Report.{Carried, InTurn, Lockstep}
+use Rattle.switch_spec.specs.Report.{InTurn, IsNext, IsFollowed, Lockstep, from_cpu, packet_out, carried_after}
 use Rattle.switch_spec.specs.ReportText.{is_who}
 use Rattle.switch_spec.proofs.Answers.{answer_sound}
-use Rattle.switch_spec.proofs.Lists.{All-weaken, All-snoc, All-filter}
+use Rattle.plane_spec.proofs.Lists.{All-weaken, All-snoc, All-filter}
 
 -- the events of a lane's next call
 abbrev pub call_events : Played → ℕ → LaneCall → List Event
-call_events p lane call = (answer p.control lane (next_call lane p) call).events
+call_events p lane call = (answer p.control no_figures lane (next_call lane p) call).events
 
 -- a lane's next call with its entry
 abbrev pub made_call : Played → ℕ → LaneCall → Made
-made_call p lane call = record { call = call; entry = answered p.control p.steps lane (next_call lane p) call }
+made_call p lane call = record { call = call; figures = no_figures; entry = answered p.control no_figures p.steps lane (next_call lane p) call }
 
 -- a lane's next call, for which there is no memory
 abbrev pub made_refusal : Played → ℕ → LaneCall → Made
-made_refusal p lane call = record { call = call; entry = refused_for_memory p.steps lane (next_call lane p) }
+made_refusal p lane call = record { call = call; figures = no_figures; entry = refused_for_memory p.steps lane (next_call lane p) }
 
 -- a worker's next packet with its record
 abbrev pub carried_packet : Played → ℕ → ℕ → List ℕ → Carried
 carried_packet p lane port packet =
-    record { arrival = (port, packet); outcome = record_of (Worker lane) (next_packet lane p) p.steps (meaning p.control port packet) }
+    record { arrival = (port, packet); outcome = meaning.carried (Worker lane) (next_packet lane p) p.steps p.control port packet }
 
 -- the calls that the rest of a tape makes
 abbrev pub made : Played → List Turn → List Made
@@ -64,25 +66,42 @@ records_played p (Refuses lane call ∷ tape) = records_played (play_refusal p l
 records_played p (Carries lane port packet ∷ tape) = records_played (play_packet p lane port packet) tape ∙ append_assoc p.records _ _
 
 -- a lane's call on the tape is followed by its entry, and only by it
-pub lockstep_call : (call : LaneCall) (n lane : ℕ) (tape : List TapeRecord) (m : Made) (journal : List Made) (records : List Carried) → m.entry.lane ≡ lane → m.call ≡ call
-    → Lockstep m.entry.reply.steps tape journal records → Lockstep n (call_item lane call ∷ tape) (m ∷ journal) records
-lockstep_call (Asks method message) n lane tape m journal records lane_is call_is rest = (lane_is, call_is, rest)
-lockstep_call Leaves n lane tape m journal records lane_is call_is rest = (lane_is, call_is, rest)
+pub lockstep_call : (start : Start) (call : LaneCall) (n lane : ℕ) (tape : List TapeRecord) (m : Made) (journal : List Made) (records : List Carried) → IsNext start lane call m records
+    → Lockstep start m.entry.reply.steps tape journal (carried_after (packet_out start m) records) → Lockstep start n (call_item lane call ∷ tape) (m ∷ journal) records
+lockstep_call start (Asks method message) n lane tape m journal records next rest = (next, rest)
+lockstep_call start Leaves n lane tape m journal records next rest = (next, rest)
 
-pub lockstep_played : (p : Played) (tape : List Turn) → Lockstep p.steps (items_of tape) (made p tape) (carried p tape)
-lockstep_played p [] = (refl, refl)
-lockstep_played p (Answers lane call ∷ tape) = lockstep_call call p.steps lane (items_of tape) (made_call p lane call) _ _ refl refl (lockstep_played (play_call p lane call) tape)
-lockstep_played p (Refuses lane call ∷ tape) = lockstep_call call p.steps lane (items_of tape) (made_refusal p lane call) _ _ refl refl (lockstep_played (play_refusal p lane) tape)
-lockstep_played p (Carries lane port packet ∷ tape) = (refl, refl, refl, lockstep_played (play_packet p lane port packet) tape)
+-- what no packet is made to enter by
+pub no_packet_out : (start : Start) (m : Made) → m.entry.reply.packet ≡ None → packet_out start m ≡ None
+no_packet_out start m none = ap (option_map (from_cpu start)) none
+
+-- where a call makes no packet enter, the next one is carried later
+pub next_without : (start : Start) (lane : ℕ) (call : LaneCall) (m : Made) (records : List Carried) → m.entry.lane ≡ lane → m.call ≡ call → m.figures ≡ no_figures → m.entry.reply.packet ≡ None → IsNext start lane call m records
+next_without start lane call m records lane_is call_is counted none =
+    let F : Option Arrival → Type 0 = λ arrival. IsFollowed arrival m records in
+    record { lane_is = lane_is; call_is = call_is; counted = counted; followed = subst F (sym (no_packet_out start m none)) tt }
+
+pub lockstep_without : (start : Start) (call : LaneCall) (n lane : ℕ) (tape : List TapeRecord) (m : Made) (journal : List Made) (records : List Carried) → m.entry.lane ≡ lane → m.call ≡ call → m.figures ≡ no_figures
+    → m.entry.reply.packet ≡ None → Lockstep start m.entry.reply.steps tape journal records → Lockstep start n (call_item lane call ∷ tape) (m ∷ journal) records
+lockstep_without start call n lane tape m journal records lane_is call_is counted none rest =
+    let L : Option Arrival → Type 0 = λ arrival. Lockstep start m.entry.reply.steps tape journal (carried_after arrival records) in
+    lockstep_call start call n lane tape m journal records (next_without start lane call m records lane_is call_is counted none) (subst L (sym (no_packet_out start m none)) rest)
+
+pub lockstep_played : (start : Start) (p : Played) (tape : List Turn) → Lockstep start p.steps (items_of tape) (made p tape) (carried p tape)
+lockstep_played start p [] = (refl, refl)
+lockstep_played start p (Answers lane call ∷ tape) =
+    lockstep_without start call p.steps lane (items_of tape) (made_call p lane call) _ _ refl refl refl (answer_sound p.control no_figures lane (next_call lane p) call).no_packet (lockstep_played start (play_call p lane call) tape)
+lockstep_played start p (Refuses lane call ∷ tape) = lockstep_without start call p.steps lane (items_of tape) (made_refusal p lane call) _ _ refl refl refl refl (lockstep_played start (play_refusal p lane) tape)
+lockstep_played start p (Carries lane port packet ∷ tape) = (refl, refl, refl, lockstep_played start (play_packet p lane port packet) tape)
 
 -- a call that is answered has the entry that it has to have, and its events are its own
 pub is_expected : (c : Control) (n lane k : ℕ) (call : LaneCall)
-    → answered c n lane k call ≡ expected c n (record { call = call; entry = answered c n lane k call })
-is_expected c n lane k call = sym (cond-false _ _ _ (answer_sound c lane k call).available)
+    → answered c no_figures n lane k call ≡ expected c n (record { call = call; figures = no_figures; entry = answered c no_figures n lane k call })
+is_expected c n lane k call = sym (cond-false _ _ _ (answer_sound c no_figures lane k call).available)
 
 pub own_events_of : (c : Control) (n lane k : ℕ) (call : LaneCall)
-    → own_events c (record { call = call; entry = answered c n lane k call }) ≡ (answer c lane k call).events
-own_events_of c n lane k call = cond-false _ _ _ (answer_sound c lane k call).available
+    → own_events c (record { call = call; figures = no_figures; entry = answered c no_figures n lane k call }) ≡ (answer c no_figures lane k call).events
+own_events_of c n lane k call = cond-false _ _ _ (answer_sound c no_figures lane k call).available
 
 pub history_played : (p : Played) (tape : List Turn) → History p.control p.steps (made p tape)
 history_played p [] = tt

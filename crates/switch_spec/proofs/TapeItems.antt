@@ -6,8 +6,10 @@ use Rattle.std.proofs.lemmas.Nat.{be_bytes_2, be_bytes_4}
 use Rattle.p4_types.specs.declared.tape.TapeRecord.{TapeRecord}
 use Rattle.p4_types.specs.declared.tape.TapeRecord.TheVariants.{Call, Packet, Leave}
 use Rattle.wire_fields.specs.Reading.{◌>>=◌}
-use Rattle.switch_spec.specs.Tape.{record_bytes, IsCall, IsPacket, IsLeave, IsRecord, end_bytes}
-use Rattle.switch_spec.specs.TapeReading.{number_at, bytes_at, call_at, packet_at, leave_at, end_at, item_at}
+use Rattle.p4_types.specs.declared.calls.Method.{Method}
+use Rattle.p4_types.specs.declared.calls.Method.TheVariants as method_variants
+use Rattle.switch_spec.specs.Tape.{method_number, record_bytes, IsCall, IsPacket, IsLeave, IsRecord, end_bytes}
+use Rattle.switch_spec.specs.TapeReading.{method_of, number_at, bytes_at, call_at, packet_at, leave_at, end_at, item_at}
 use Rattle.switch_spec.proofs.Readers.{bind_ok, ok_is, Read, IsFlawed, IsReader, then, then_reader, gives, gives_reader, same_reader, digits_of, IsRange, number_found, number_again, number_reader, bytes_found, bytes_again, bytes_reader, clash_err, err_is}
 
 -- ---- digits as bytes of a width
@@ -44,8 +46,43 @@ call_sizes = record { order = omega arith; fits = omega arith }
 methods : IsRange 1 1 6
 methods = record { order = omega arith; fits = omega arith }
 
+-- each method has its number, 1 to 6, and each of these numbers its method
+method_again : (method : Method) → method_of (method_number method) ≡ method
+method_again method_variants.Write = refl
+method_again method_variants.Read = refl
+method_again method_variants.SetForwardingPipelineConfig = refl
+method_again method_variants.GetForwardingPipelineConfig = refl
+method_again method_variants.StreamChannel = refl
+method_again method_variants.Capabilities = refl
+
+method_low : (method : Method) → 1 ≤ method_number method
+method_low method_variants.Write = omega arith
+method_low method_variants.Read = omega arith
+method_low method_variants.SetForwardingPipelineConfig = omega arith
+method_low method_variants.GetForwardingPipelineConfig = omega arith
+method_low method_variants.StreamChannel = omega arith
+method_low method_variants.Capabilities = omega arith
+
+method_high : (method : Method) → method_number method ≤ 6
+method_high method_variants.Write = omega arith
+method_high method_variants.Read = omega arith
+method_high method_variants.SetForwardingPipelineConfig = omega arith
+method_high method_variants.GetForwardingPipelineConfig = omega arith
+method_high method_variants.StreamChannel = omega arith
+method_high method_variants.Capabilities = omega arith
+
+number_again_of : (n : ℕ) → 1 ≤ n → n ≤ 6 → method_number (method_of n) ≡ n
+number_again_of zero low high = absurd (omega arith)
+number_again_of (suc zero) low high = refl
+number_again_of (suc (suc zero)) low high = refl
+number_again_of (suc (suc (suc zero))) low high = refl
+number_again_of (suc (suc (suc (suc zero)))) low high = refl
+number_again_of (suc (suc (suc (suc (suc zero))))) low high = refl
+number_again_of (suc (suc (suc (suc (suc (suc zero)))))) low high = refl
+number_again_of (suc (suc (suc (suc (suc (suc (suc n))))))) low high = absurd (omega arith)
+
 abbrev call_message : ℕ → ℕ → ℕ → Read TapeRecord
-call_message lane size method = then (bytes_at (size - 1)) (λ message. gives (Call lane method message))
+call_message lane size method = then (bytes_at (size - 1)) (λ message. gives (Call lane (method_of method) message))
 
 abbrev call_method : ℕ → ℕ → Read TapeRecord
 call_method lane size = then (number_at 1 1 6) (λ method. call_message lane size method)
@@ -65,32 +102,33 @@ call_reader = same_reader call_read call_at call_is
     (then_reader (number_at 2 0 31) (λ lane. call_size lane) (number_reader 2 0 31 lanes_32) (λ lane.
     then_reader (number_at 4 1 8388609) (λ size. call_method lane size) (number_reader 4 1 8388609 call_sizes) (λ size.
     then_reader (number_at 1 1 6) (λ method. call_message lane size method) (number_reader 1 1 6 methods) (λ method.
-    then_reader (bytes_at (size - 1)) (λ message. gives (Call lane method message)) (bytes_reader (size - 1)) (λ message. gives_reader (Call lane method message))))))
+    then_reader (bytes_at (size - 1)) (λ message. gives (Call lane (method_of method) message)) (bytes_reader (size - 1)) (λ message. gives_reader (Call lane (method_of method) message))))))
 
 -- what stands behind the kind of a call, by digits
 abbrev call_body : ℕ → ℕ → ℕ → List ℕ → List ℕ → List ℕ
 call_body lane size method message rest = digits_of 2 lane ++ (digits_of 4 size ++ (digits_of 1 method ++ (message ++ rest)))
 
-call_body_is : (lane method : ℕ) (message rest : List ℕ) → IsCall lane method message → record_bytes (Call lane method message) ++ rest ≡ 1 ∷ call_body lane (suc (length message)) method message rest
+call_body_is : (lane : ℕ) (method : Method) (message rest : List ℕ) → IsCall lane message → record_bytes (Call lane method message) ++ rest ≡ 1 ∷ call_body lane (suc (length message)) (method_number method) message rest
 call_body_is lane method message rest c =
-    ap₂ (λ (a b : List ℕ). (1 ∷ a ++ b ++ (method ∷ message)) ++ rest) (digits_2 lane (omega (arith, c.of_controller))) (digits_4 (suc (length message)) (omega (arith, c.size)))
-    ∙ ap (λ (a : List ℕ). 1 ∷ (digits_of 2 lane ++ (digits_of 4 (suc (length message)) ++ (a ++ (message ++ rest))))) (digits_1 method)
+    ap₂ (λ (a b : List ℕ). (1 ∷ a ++ b ++ (method_number method ∷ message)) ++ rest) (digits_2 lane (omega (arith, c.of_controller))) (digits_4 (suc (length message)) (omega (arith, c.size)))
+    ∙ ap (λ (a : List ℕ). 1 ∷ (digits_of 2 lane ++ (digits_of 4 (suc (length message)) ++ (a ++ (message ++ rest))))) (digits_1 (method_number method))
 
-call_again : (lane method : ℕ) (message rest : List ℕ) → IsCall lane method message → call_at (call_body lane (suc (length message)) method message rest) ≡ Ok (Call lane method message, rest)
+call_again : (lane : ℕ) (method : Method) (message rest : List ℕ) → IsCall lane message → call_at (call_body lane (suc (length message)) (method_number method) message rest) ≡ Ok (Call lane method message, rest)
 call_again lane method message rest c =
     let size = suc (length message) in
     let b3 = message ++ rest in
-    let b2 = digits_of 1 method ++ b3 in
+    let b2 = digits_of 1 (method_number method) ++ b3 in
     let b1 = digits_of 4 size ++ b2 in
     let e0 = number_again 2 0 31 lane b1 lanes_32 (omega arith) (omega (arith, c.of_controller)) in
     let e1 = number_again 4 1 8388609 size b2 call_sizes (omega arith) (omega (arith, c.size)) in
-    let e2 = number_again 1 1 6 method b3 methods c.low_method c.high_method in
+    let e2 = number_again 1 1 6 (method_number method) b3 methods (method_low method) (method_high method) in
     let e3 = bytes_again (size - 1) message rest (omega arith) in
     call_is (digits_of 2 lane ++ b1)
     ∙ ap (λ (r : Result (ℕ × List ℕ) ℕ). r >>= λ x. call_size x.0 x.1) e0
     ∙ ap (λ (r : Result (ℕ × List ℕ) ℕ). r >>= λ x. call_method lane x.0 x.1) e1
     ∙ ap (λ (r : Result (ℕ × List ℕ) ℕ). r >>= λ x. call_message lane size x.0 x.1) e2
-    ∙ ap (λ (r : Result (List ℕ × List ℕ) ℕ). r >>= λ x. gives (Call lane method x.0) x.1) e3
+    ∙ ap (λ (r : Result (List ℕ × List ℕ) ℕ). r >>= λ x. gives (Call lane (method_of (method_number method)) x.0) x.1) e3
+    ∙ ap (λ (m : Method). Ok (Call lane m message, rest)) (method_again method)
 
 -- the bytes, with the kind in front, are the record and the rest
 abbrev pub IsSpelled : ℕ → List ℕ → TapeRecord × List ℕ → Type 0
@@ -102,18 +140,20 @@ call_found bytes x e =
     let lane = a.0.0 in
     let b = bind_ok (number_at 4 1 8388609 a.0.1) (λ y. call_method lane y.0 y.1) x a.2 in
     let c = bind_ok (number_at 1 1 6 b.0.1) (λ y. call_message lane b.0.0 y.0 y.1) x b.2 in
-    let d = bind_ok (bytes_at (b.0.0 - 1) c.0.1) (λ y. gives (Call lane c.0.0 y.0) y.1) x c.2 in
+    let d = bind_ok (bytes_at (b.0.0 - 1) c.0.1) (λ y. gives (Call lane (method_of c.0.0) y.0) y.1) x c.2 in
     let f0 = number_found 2 0 31 bytes lane a.0.1 lanes_32 a.1 in
     let f1 = number_found 4 1 8388609 a.0.1 b.0.0 b.0.1 call_sizes b.1 in
     let f2 = number_found 1 1 6 b.0.1 c.0.0 c.0.1 methods c.1 in
     let f3 = bytes_found (b.0.0 - 1) c.0.1 d.0.0 d.0.1 d.1 in
-    let made : IsCall lane c.0.0 d.0.0 = record { of_controller = omega (arith, f0.2); low_method = f2.1; high_method = f2.2; size = omega (arith, f3.1, f1.2) } in
+    let method = method_of c.0.0 in
+    let named : c.0.0 ≡ method_number method = sym (number_again_of c.0.0 f2.1 f2.2) in
+    let made : IsCall lane d.0.0 = record { of_controller = omega (arith, f0.2); size = omega (arith, f3.1, f1.2) } in
     let sized : b.0.0 ≡ suc (length d.0.0) = omega (arith, f3.1, f1.1) in
     let joined : bytes ≡ call_body lane b.0.0 c.0.0 d.0.0 d.0.1 =
     f0.0 ∙ ap (λ (w : List ℕ). digits_of 2 lane ++ w) (f1.0 ∙ ap (λ (w : List ℕ). digits_of 4 b.0.0 ++ w) (f2.0 ∙ ap (λ (w : List ℕ). digits_of 1 c.0.0 ++ w) f3.0)) in
-    let spelled : 1 ∷ bytes ≡ record_bytes (Call lane c.0.0 d.0.0) ++ d.0.1 =
-    ap (λ (w : List ℕ). 1 ∷ w) joined ∙ ap (λ (n : ℕ). 1 ∷ call_body lane n c.0.0 d.0.0 d.0.1) sized ∙ sym (call_body_is lane c.0.0 d.0.0 d.0.1 made) in
-    subst (λ (y : TapeRecord × List ℕ). IsSpelled 1 bytes y) (ok_is {E = ℕ} (Call lane c.0.0 d.0.0, d.0.1) x d.2) (spelled, made)
+    let spelled : 1 ∷ bytes ≡ record_bytes (Call lane method d.0.0) ++ d.0.1 =
+    ap (λ (w : List ℕ). 1 ∷ w) joined ∙ ap (λ (n : ℕ). 1 ∷ call_body lane n c.0.0 d.0.0 d.0.1) sized ∙ ap (λ (n : ℕ). 1 ∷ call_body lane (suc (length d.0.0)) n d.0.0 d.0.1) named ∙ sym (call_body_is lane method d.0.0 d.0.1 made) in
+    subst (λ (y : TapeRecord × List ℕ). IsSpelled 1 bytes y) (ok_is {E = ℕ} (Call lane method d.0.0, d.0.1) x d.2) (spelled, made)
 
 -- ---- packets
 
@@ -385,7 +425,7 @@ item_found (kind ∷ bytes) x e = found_at kind bytes x e
 pub item_again : (o : Option TapeRecord) (rest : List ℕ) → IsItem o → item_at (item_bytes o ++ rest) ≡ Ok (o, rest)
 item_again None rest fits = item_0 (0 ∷ 0 ∷ 0 ∷ 0 ∷ 0 ∷ 0 ∷ rest) ∙ end_again rest
 item_again (Some (Call lane method message)) rest fits =
-    ap item_at (call_body_is lane method message rest fits) ∙ item_1 (call_body lane (suc (length message)) method message rest)
+    ap item_at (call_body_is lane method message rest fits) ∙ item_1 (call_body lane (suc (length message)) (method_number method) message rest)
     ∙ ap (λ (r : Result (TapeRecord × List ℕ) ℕ). r >>= λ x. gives {X = Item} (Some x.0) x.1) (call_again lane method message rest fits)
 item_again (Some (Packet lane port packet)) rest fits =
     ap item_at (packet_body_is lane port packet rest fits) ∙ item_2 (packet_body lane (suc (suc (length packet))) port packet rest)

@@ -2,12 +2,13 @@
 use Rattle.std.proofs.Common.{◌≡◌, ℕ, zero, suc, ◌+◌, ◌-◌, ◌<◌, ◌≤◌, Bool, true, false, cond, eqb, List, [], ◌∷◌, ◌++◌, length, take, Result, Ok, Err, All, flat_map, refl, sym, ap, subst, ◌∙◌, append_assoc, append-nil, arith, inl, inr}
 use Rattle.std.proofs.lemmas.Bool.{eq-eqb, eqb-true}
 use Rattle.std.proofs.lemmas.List.{take_at, length-append}
-use Rattle.std.proofs.lemmas.List.Elements.{All-nil, All-head, All-tail}
+use Rattle.std.proofs.lemmas.List.Elements.{All-head, All-tail}
 use Rattle.p4_types.specs.declared.tape.TapeRecord.{TapeRecord}
 use Rattle.wire_fields.specs.Reading.{◌>>=◌}
-use Rattle.switch_spec.specs.Tape.{record_bytes, IsRecord, magic, end_bytes, IsTape, BeginsTape, NoTapeBeginsAnother}
+use Rattle.switch_spec.specs.Tape.{record_bytes, IsRecord, no_lanes, magic, end_bytes, IsTape, BeginsTape, NoTapeBeginsAnother}
 use Rattle.switch_spec.specs.TapeReading.{Flaw, Bad, TooMany, text_at, or_bad, with_first, records_at, tape_at}
 use Rattle.switch_spec.specs.TapeLaws.{IsNoTape, ReadIsTape, TapeIsRead, BadIsExact, TooManyIsExact, TooManyIsFound}
+use Rattle.switch_spec.proofs.Standing.{all_of, stand_all}
 use Rattle.switch_spec.proofs.Readers.{bind_ok, bind_err, chosen, failed, clash, err_is}
 use Rattle.switch_spec.proofs.TapeRecords.{or_bad_ok, or_bad_err, or_bad_many, fine, records_end, records_more, records_again, records_found, RecordsFlawed, records_flawed, records_past, past_again}
 
@@ -88,7 +89,7 @@ unfolding tape_at
 tape_is_read limit bytes records tape le =
     ap (tape_at limit) tape.spelled
     ∙ ap (λ (r : Result (List ℕ) ℕ). or_bad r >>= records_at limit) (text_again magic (flat_map record_bytes records ++ end_bytes))
-    ∙ records_again records limit tape.each le
+    ∙ records_again records limit (all_of no_lanes records tape.each) le
 
 pub read_is_tape : ReadIsTape
 unfolding tape_at
@@ -96,7 +97,7 @@ read_is_tape limit bytes records e =
     let b = bind_ok (or_bad (text_at magic bytes)) (records_at limit) records e in
     let t = text_found magic bytes b.0 (or_bad_ok (text_at magic bytes) b.0 b.1) in
     let f = records_found limit b.0 records b.2 in
-    (record { spelled = t ∙ ap (λ (w : List ℕ). magic ++ w) f.spelled; each = f.each }, f.count)
+    (record { spelled = t ∙ ap (λ (w : List ℕ). magic ++ w) f.spelled; each = stand_all no_lanes records f.each }, f.count)
 
 -- ---- the place of a flaw
 
@@ -124,7 +125,7 @@ magic_flaw limit bytes left e =
         more = f.more ++ end_bytes;
         tape = record {
           spelled = sym (append_assoc f.front f.more end_bytes) ∙ ap (λ (w : List ℕ). w ++ end_bytes) f.goes_on;
-          each = All-nil IsRecord;
+          each = tt;
         };
       };
       worse = λ b rest more h k lt. ap (λ (r : Result (List ℕ) ℕ). or_bad r >>= records_at k) (f.worse b rest more h);
@@ -138,7 +139,7 @@ record_flaw limit bytes rest left spelled f = record {
   tail = f.tail;
   parts = spelled ∙ ap (λ (w : List ℕ). magic ++ w) f.parts;
   size = f.size;
-  begins = record { records = f.goes_on.records; more = f.goes_on.more; tape = record { spelled = ap (λ (w : List ℕ). magic ++ w) f.goes_on.spelled; each = f.goes_on.each } };
+  begins = record { records = f.goes_on.records; more = f.goes_on.more; tape = record { spelled = ap (λ (w : List ℕ). magic ++ w) f.goes_on.spelled; each = stand_all no_lanes f.goes_on.records f.goes_on.each } };
   worse = λ b others more h k lt. ap (λ (r : Result (List ℕ) ℕ). or_bad r >>= records_at k) (text_again magic (f.front ++ b ∷ more)) ∙ f.worse b others more h k lt;
   still = λ k lt. ap (tape_at k) spelled ∙ ap (λ (r : Result (List ℕ) ℕ). or_bad r >>= records_at k) (text_again magic rest) ∙ f.still k lt;
 }
@@ -206,7 +207,7 @@ too_many_is_exact limit bytes left e =
             kind = p.kind;
             rest = p.rest;
             spelled = t ∙ ap (λ (w : List ℕ). magic ++ w) p.spelled;
-            each = p.each;
+            each = stand_all no_lanes p.records p.each;
             full = p.full;
             low_kind = p.low_kind;
             high_kind = p.high_kind;
@@ -239,7 +240,7 @@ begins_none bytes (m ∷ more) xs ys a b =
     ap (λ (w : List ℕ). w ++ m ∷ more) a.spelled ∙ ap (λ (w : List ℕ). magic ++ w) (append_assoc (flat_map record_bytes xs) end_bytes (m ∷ more)) in
     let read : tape_at k (bytes ++ m ∷ more) ≡ Err (Bad (suc (length more))) =
     ap (tape_at k) regrouped ∙ ap (λ (r : Result (List ℕ) ℕ). or_bad r >>= records_at k) (text_again magic (flat_map record_bytes xs ++ (end_bytes ++ m ∷ more)))
-    ∙ trailing xs k m more a.each (omega arith) in
+    ∙ trailing xs k m more (all_of no_lanes xs a.each) (omega arith) in
     absurd (tells (sym (tape_is_read k (bytes ++ m ∷ more) ys b (omega arith)) ∙ read))
 
 pub no_tape_begins_another : NoTapeBeginsAnother
@@ -251,5 +252,5 @@ too_many_is_found limit bytes left p =
     ap (tape_at limit) p.spelled
     ∙ ap (λ (r : Result (List ℕ) ℕ). or_bad r >>= records_at limit) (text_again magic (flat_map record_bytes p.records ++ p.kind ∷ p.rest))
     ∙ ap (λ (n : ℕ). records_at n (flat_map record_bytes p.records ++ p.kind ∷ p.rest)) (sym p.full)
-    ∙ past_again p.records p.kind p.rest p.each p.low_kind p.high_kind
+    ∙ past_again p.records p.kind p.rest (all_of no_lanes p.records p.each) p.low_kind p.high_kind
     ∙ ap (λ (n : ℕ). Err (TooMany n)) p.place

@@ -1,16 +1,23 @@
 -- The answer to a call (P4Runtime 1.3.0, "Write RPC", "Error Reporting"; the order of a Write's refusals: this project's profile).
-use Rattle.std.specs.Prelude.{ℕ, ℤ, pos, negsuc, ◌==◌, nat_lt, nat_le, not, Bool, true, false, if◌then◌else◌, List, [], ◌∷◌, map, length, Option, Some, None, is_some, Result, Ok, Err, is_err}
+use Rattle.std.specs.Prelude.{◌≡◌, ℕ, ℤ, pos, negsuc, ◌==◌, nat_lt, not, Bool, true, false, if◌then◌else◌, List, [], ◌∷◌, map, length, Option, Some, None, is_some, Result, Ok, Err, is_err}
 use Rattle.std.specs.List.{filter_map, list_any}
 use Rattle.std.specs.Result.{result_ok}
+use Rattle.p4_types.specs.declared.calls.Atomicity.{Atomicity}
+use Rattle.p4_types.specs.declared.calls.Atomicity.TheVariants as atomicities
 use Rattle.p4_types.specs.declared.calls.Call.{Call}
 use Rattle.p4_types.specs.declared.calls.Call.TheVariants as calls
+use Rattle.p4_types.specs.declared.calls.Method.{Method}
+use Rattle.p4_types.specs.declared.calls.Method.TheVariants as methods
 use Rattle.p4_types.specs.declared.calls.Notice.{Notice}
+use Rattle.p4_types.specs.CodeNumber.{arbitration_code}
+use Rattle.p4_types.specs.declared.code.ArbitrationRule.{ArbitrationRule}
+use Rattle.p4_types.specs.declared.code.ArbitrationRule.TheVariants as arbitration
 use Rattle.p4_types.specs.declared.code.Cause.{Cause}
 use Rattle.p4_types.specs.declared.code.Code.{Code}
 use Rattle.p4_types.specs.declared.code.Code.TheVariants as codes
-use Rattle.p4_types.specs.declared.events.Event.{Event}
 use Rattle.p4_types.specs.declared.events.Event.TheVariants as events
 use Rattle.p4_types.specs.declared.events.Origin.{Origin}
+use Rattle.p4_types.specs.declared.messages.Error.{Error}
 use Rattle.p4_types.specs.declared.messages.MasterArbitrationUpdate.{MasterArbitrationUpdate}
 use Rattle.p4_types.specs.declared.messages.StreamMessageRequest.{StreamMessageRequest}
 use Rattle.p4_types.specs.declared.messages.StreamMessageRequest.TheVariants as requests
@@ -22,15 +29,23 @@ use Rattle.role_arbiter.specs.declared.sessions.Session.{Session}
 use Rattle.role_arbiter.specs.Arbitration.{cause, asked, arbitrated, left}
 use Rattle.role_arbiter.specs.State.{session_in}
 use Rattle.role_arbiter.specs.Telling.{told_at_arbitration, told_at_leave}
-use Rattle.switch_spec.specs.Control.{Control, primary, is_of_primary, outcome, change_applied}
+use Rattle.plane_spec.specs.Planes.{Control, target, primary, is_of_primary, outcome, change_applied}
+use Rattle.plane_spec.specs.Config.{Event}
 use Rattle.switch_spec.specs.Notices.{standing_notices, unserved_notice}
 use Rattle.switch_spec.specs.Reading.{read_result}
-use Rattle.switch_spec.specs.Status.{status_bytes, error_bytes, aborted_bytes, write_status, capabilities_bytes}
+use Rattle.switch_spec.specs.Status.{status_bytes, no_error, error_of, aborted_error, write_status, capabilities_bytes}
 
--- A call as its lane brings it: a message with its method (1 Write, 2 Read, 3 Set, 4 Get, 5 a stream message,
--- 6 Capabilities), or the end of its stream.
+-- the packets and bytes that the counter of each slot has counted
+abbrev pub Figures : Type 0
+Figures = ℕ → ℕ × ℕ
+
+-- the figures of counters that have counted nothing
+abbrev pub no_figures : Figures
+no_figures slot = (0, 0)
+
+-- a call as its lane brings it: a message with its method, or the end of its stream
 pub data LaneCall : Type 0 where
-  Asks : (method : ℕ) (message : List ℕ) → LaneCall
+  Asks : (method : Method) (message : List ℕ) → LaneCall
   Leaves : LaneCall
 
 -- what the call is
@@ -55,23 +70,23 @@ plain code messages = record { code = code; messages = messages; notices = []; e
 abbrev pub failed : Code → Answer
 failed code = plain code (status_bytes code ∷ [])
 
--- what an atomicity asks for: 0 CONTINUE_ON_ERROR, 1 ROLLBACK_ON_ERROR, 2 DATAPLANE_ATOMIC
-abbrev pub is_atomicity : ℤ → Bool
-is_atomicity (pos n) = nat_le n 2
-is_atomicity (negsuc n) = false
+-- an atomicity by its number
+abbrev pub atomicity_of : ℤ → Option Atomicity
+atomicity_of (pos n) = if n == 0 then Some atomicities.ContinueOnError else if n == 1 then Some atomicities.RollbackOnError else if n == 2 then Some atomicities.DataplaneAtomic else None
+atomicity_of (negsuc n) = None
 
--- a list that takes effect whole or not at all
-abbrev pub is_atomic : ℤ → Bool
-is_atomic (pos n) = not (n == 0)
-is_atomic (negsuc n) = true
+-- a list takes effect whole or not at all, unless each update stands by itself
+abbrev pub is_atomic : Option Atomicity → Bool
+is_atomic (Some atomicities.ContinueOnError) = false
+is_atomic _ = true
 
 -- why a Write is refused whole
 abbrev pub write_refusal : Control → WriteRequest → Option Code
 write_refusal c request =
     if not (request.device_id == c.device) then Some codes.NotFound else
     if not (is_of_primary (primary c request.role_id) request.election_id) then Some codes.PermissionDenied else
-    if not (is_some c.plane) then Some codes.FailedPrecondition else
-    if not (is_atomicity request.atomicity) then Some codes.InvalidArgument else
+    if not (is_some (target c)) then Some codes.FailedPrecondition else
+    if not (is_some (atomicity_of request.atomicity)) then Some codes.InvalidArgument else
     if nat_lt 4096 (length request.updates) then Some codes.ResourceExhausted else None
 
 -- the state after an update: one that fails leaves it
@@ -85,18 +100,18 @@ outcomes c role [] = []
 outcomes c role (update ∷ updates) = outcome c role update ∷ outcomes (state_after c (outcome c role update)) role updates
 
 -- the Error of an update by itself: none where it succeeded
-abbrev pub own_error : Result Change Cause → List ℕ
-own_error (Ok change) = []
-own_error (Err cause) = error_bytes cause
+abbrev pub own_error : Result Change Cause → Error
+own_error (Ok change) = no_error
+own_error (Err cause) = error_of cause
 
 -- the Errors of a batch that fails: the first failing update has its cause, every other is aborted
-abbrev pub batch_errors : List (Result Change Cause) → List (List ℕ)
+abbrev pub batch_errors : List (Result Change Cause) → List Error
 batch_errors [] = []
-batch_errors (Ok change ∷ others) = aborted_bytes ∷ batch_errors others
-batch_errors (Err cause ∷ others) = error_bytes cause ∷ map (λ other. aborted_bytes) others
+batch_errors (Ok change ∷ others) = aborted_error ∷ batch_errors others
+batch_errors (Err cause ∷ others) = error_of cause ∷ map (λ other. aborted_error) others
 
 -- the reply to a Write: OK, or UNKNOWN with the Errors
-abbrev pub write_reply : Bool → List (List ℕ) → Answer
+abbrev pub write_reply : Bool → List Error → Answer
 write_reply true errors = plain codes.Unknown (write_status errors ∷ [])
 write_reply false errors = plain codes.Ok ([] ∷ [])
 
@@ -121,14 +136,14 @@ all_or_nothing by list = record (write_reply (has_failed list) (batch_errors lis
 abbrev pub origin : ℕ → ℕ → WriteRequest → Origin
 origin lane k request = record { caller = lane; call = k; role = request.role_id; election_id = request.election_id }
 
--- what a Write answers that is not refused whole, by its atomicity
-abbrev pub written : ℤ → Origin → List (Result Change Cause) → Answer
-written atomicity by list = if is_atomic atomicity then all_or_nothing by list else continued by list
+-- what a Write answers that is not refused whole, by whether its list takes effect whole or not at all
+abbrev pub written : Bool → Origin → List (Result Change Cause) → Answer
+written atomic by list = if atomic then all_or_nothing by list else continued by list
 
 -- the same where there is no code to refuse it whole, else that code
 abbrev pub write_unless : Option Code → Control → ℕ → ℕ → WriteRequest → Answer
 write_unless (Some code) c lane k request = failed code
-write_unless None c lane k request = written request.atomicity (origin lane k request) (outcomes c request.role_id request.updates)
+write_unless None c lane k request = written (is_atomic (atomicity_of request.atomicity)) (origin lane k request) (outcomes c request.role_id request.updates)
 
 -- what a Write is answered
 abbrev pub write_answer : Control → ℕ → ℕ → WriteRequest → Answer
@@ -140,12 +155,13 @@ read_reply (Ok messages) = plain codes.Ok messages
 read_reply (Err code) = failed code
 
 -- a message of the stream channel has no Status
-abbrev pub unreadable : ℕ → Answer
-unreadable method = plain codes.InvalidArgument (if method == 5 then [] else status_bytes codes.InvalidArgument ∷ [])
+abbrev pub unreadable : Method → Answer
+unreadable methods.StreamChannel = plain codes.InvalidArgument []
+unreadable _ = failed codes.InvalidArgument
 
 -- a session is made or changed as the update asks for, unless a rule refuses it
-abbrev pub arbitration_unless : Option Cause → Control → ℕ → ℕ → MasterArbitrationUpdate → Answer
-arbitration_unless (Some refused) c lane k update = plain refused.code []
+abbrev pub arbitration_unless : Option ArbitrationRule → Control → ℕ → ℕ → MasterArbitrationUpdate → Answer
+arbitration_unless (Some rule) c lane k update = plain (arbitration_code rule) []
 arbitration_unless None c lane k update =
     let new = asked lane update in
     record (plain codes.Ok []) {
@@ -155,7 +171,7 @@ arbitration_unless None c lane k update =
 
 -- A1 to A5: the device is looked at first
 abbrev pub arbitration_answer : Control → ℕ → ℕ → MasterArbitrationUpdate → Answer
-arbitration_answer c lane k update = if update.device_id == c.device then arbitration_unless (cause c.roles lane update) c lane k update else plain codes.NotFound []
+arbitration_answer c lane k update = arbitration_unless (if update.device_id == c.device then cause c.roles lane update else Some arbitration.A1) c lane k update
 
 -- the caller is told that its message is not served
 abbrev pub unserved_answer : ℕ → Answer
@@ -179,17 +195,21 @@ leave_of (Some session) c lane k =
 abbrev pub leave_answer : Control → ℕ → ℕ → Answer
 leave_answer c lane k = leave_of (session_in c.roles.sessions lane) c lane k
 
--- by what is asked; pipelines are not served yet
-abbrev pub answer_to : Control → ℕ → ℕ → Call → Answer
-answer_to c lane k (calls.Write request) = write_answer c lane k request
-answer_to c lane k (calls.Read request) = read_reply (read_result c request)
-answer_to c lane k (calls.Set request) = failed codes.Unimplemented
-answer_to c lane k (calls.Get request) = failed codes.Unimplemented
-answer_to c lane k (calls.Stream message) = stream_answer c lane k message
-answer_to c lane k calls.Capabilities = plain codes.Ok (capabilities_bytes ∷ [])
-answer_to c lane k (calls.Unreadable method) = unreadable method
-answer_to c lane k calls.Leave = leave_answer c lane k
+-- By what is asked. Pipelines are not served yet. The figures are for a Read of counters, which is not served yet either.
+abbrev pub answer_to : Control → Figures → ℕ → ℕ → Call → Answer
+answer_to c g lane k (calls.Write request) = write_answer c lane k request
+answer_to c g lane k (calls.Read request) = read_reply (read_result c request)
+answer_to c g lane k (calls.Set request) = failed codes.Unimplemented
+answer_to c g lane k (calls.Get request) = failed codes.Unimplemented
+answer_to c g lane k (calls.Stream message) = stream_answer c lane k message
+answer_to c g lane k calls.Capabilities = plain codes.Ok (capabilities_bytes ∷ [])
+answer_to c g lane k (calls.Unreadable method) = unreadable method
+answer_to c g lane k calls.Leave = leave_answer c lane k
 
--- the answer to the k-th call of a lane
-unfoldable pub answer : Control → ℕ → ℕ → LaneCall → Answer
-answer c lane k call = answer_to c lane k (called call)
+-- the answer to the k-th call of a lane, where the counters have these figures
+unfoldable pub answer : Control → Figures → ℕ → ℕ → LaneCall → Answer
+answer c g lane k call = answer_to c g lane k (called call)
+
+-- The events of a call do not depend on what has been counted.
+abbrev pub EventsIgnoreFigures : Type 0
+EventsIgnoreFigures = (c : Control) (g h : Figures) (lane k : ℕ) (call : LaneCall) → (answer c g lane k call).events ≡ (answer c h lane k call).events

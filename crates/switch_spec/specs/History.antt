@@ -4,18 +4,19 @@ use Rattle.std.specs.List.{filter_map}
 use Rattle.p4_types.specs.declared.calls.Reply.{Reply}
 use Rattle.p4_types.specs.declared.code.Code.{Code}
 use Rattle.p4_types.specs.declared.code.Code.TheVariants as codes
-use Rattle.p4_types.specs.declared.events.Event.{Event}
 use Rattle.p4_types.specs.declared.events.Event.TheVariants as events
 use Rattle.p4_types.specs.declared.events.Start.{Start}
 use Rattle.p4_types.specs.declared.journal.Entry.{Entry}
 use Rattle.p4_types.specs.declared.journal.Step.{Step}
 use Rattle.p4_types.specs.declared.journal.StepKind.TheVariants as kinds
-use Rattle.switch_spec.specs.Answer.{Answer, LaneCall, answer}
-use Rattle.switch_spec.specs.Control.{Control, opened, applied}
+use Rattle.switch_spec.specs.Answer.{Answer, Figures, LaneCall, answer}
+use Rattle.plane_spec.specs.Config.{Event}
+use Rattle.plane_spec.specs.Planes.{Control, opened, applied}
 
--- an entry of the journal beside the call that it answers
+-- an entry of the journal beside the call that it answers, and what the counters had counted
 pub record Made : Type 0 where
   pub call : LaneCall
+  pub figures : Figures
   pub entry : Entry
 
 -- the step that an event is; Close is none
@@ -24,6 +25,8 @@ step_of (events.Arbitrate by config) = Some (record { kind = kinds.Arbitrate; ch
 step_of (events.Leave caller call) = Some (record { kind = kinds.Leave; changes = 0 })
 step_of (events.Change by change) = Some (record { kind = kinds.Change; changes = 1 })
 step_of (events.Batch by list) = Some (record { kind = kinds.Batch; changes = length list })
+step_of (events.Save by config) = Some (record { kind = kinds.Save; changes = 0 })
+step_of (events.Commit by content) = Some (record { kind = kinds.Commit; changes = 0 })
 step_of events.Close = None
 
 -- the steps of a list of events, in order
@@ -35,9 +38,9 @@ abbrev pub reply_of : ℕ → Answer → Reply
 reply_of n a = record { code = a.code; messages = a.messages; notices = a.notices; steps = n + length (steps_of a.events); packet = a.packet }
 
 -- the entry of a call that is answered in this state after n steps
-abbrev pub answered : Control → ℕ → ℕ → ℕ → LaneCall → Entry
-answered c n lane k call =
-    let a = answer c lane k call in
+abbrev pub answered : Control → Figures → ℕ → ℕ → ℕ → LaneCall → Entry
+answered c g n lane k call =
+    let a = answer c g lane k call in
     record { lane = lane; call = k; steps = steps_of a.events; reply = reply_of n a }
 
 -- the entry of a call for which there was no memory: no step, and nothing else
@@ -56,13 +59,13 @@ is_refused_for_memory made = is_unavailable made.entry.reply.code
 
 -- what a call made in this state adds to the published list
 abbrev pub own_events : Control → Made → List Event
-own_events c made = if is_refused_for_memory made then [] else (answer c made.entry.lane made.entry.call made.call).events
+own_events c made = if is_refused_for_memory made then [] else (answer c made.figures made.entry.lane made.entry.call made.call).events
 
 -- the entry that a call made in this state after n steps has to have
 abbrev pub expected : Control → ℕ → Made → Entry
 expected c n made =
     if is_refused_for_memory made then refused_for_memory n made.entry.lane made.entry.call
-    else answered c n made.entry.lane made.entry.call made.call
+    else answered c made.figures n made.entry.lane made.entry.call made.call
 
 -- Each call has its answer in the state that the earlier calls left, or is refused for memory.
 abbrev pub History : Control → ℕ → List Made → Type 0

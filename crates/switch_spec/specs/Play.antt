@@ -7,10 +7,10 @@ use Rattle.p4_types.specs.declared.records.Record.{Record}
 use Rattle.p4_types.specs.declared.tape.TapeRecord.{TapeRecord}
 use Rattle.p4_types.specs.declared.tape.TapeRecord.TheVariants.{Call, Packet, Leave}
 use Rattle.p4_types.specs.declared.tape.Who.TheVariants.{Worker}
-use Rattle.switch_spec.specs.Answer.{LaneCall, Asks, Leaves, answer}
-use Rattle.switch_spec.specs.Control.{Control, opened, applied}
+use Rattle.switch_spec.specs.Answer.{no_figures, LaneCall, Asks, Leaves, answer}
+use Rattle.plane_spec.specs.Planes.{Control, opened, applied}
 use Rattle.switch_spec.specs.History.{answered, refused_for_memory}
-use Rattle.switch_spec.specs.Meaning.{meaning, record_of}
+use Rattle.switch_spec.specs.Meaning.{carried}
 use Rattle.switch_spec.specs.Report.{IsLockstepReport}
 use Rattle.switch_spec.specs.ReportText.{is_who, report_text}
 
@@ -36,9 +36,9 @@ next_packet lane p = count_by (λ r. is_who (Worker lane) r.who) p.records + 1
 -- a call is answered in the state as it is
 abbrev pub play_call : Played → ℕ → LaneCall → Played
 play_call p lane call =
-    let entry = answered p.control p.steps lane (next_call lane p) call in
+    let entry = answered p.control no_figures p.steps lane (next_call lane p) call in
     record p {
-      control = applied p.control (answer p.control lane (next_call lane p) call).events;
+      control = applied p.control (answer p.control no_figures lane (next_call lane p) call).events;
       steps = entry.reply.steps;
       journal = p.journal ++ entry ∷ [];
     }
@@ -46,7 +46,7 @@ play_call p lane call =
 -- a packet runs through the state as it is
 abbrev pub play_packet : Played → ℕ → ℕ → List ℕ → Played
 play_packet p lane port packet =
-    record p { records = p.records ++ record_of (Worker lane) (next_packet lane p) p.steps (meaning p.control port packet) ∷ [] }
+    record p { records = p.records ++ carried (Worker lane) (next_packet lane p) p.steps p.control port packet ∷ [] }
 
 -- a call for which there is no memory leaves the state
 abbrev pub play_refusal : Played → ℕ → Played

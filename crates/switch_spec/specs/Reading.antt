@@ -16,21 +16,24 @@ use Rattle.p4_types.specs.declared.messages.FieldMatchKind.{FieldMatchKind}
 use Rattle.p4_types.specs.declared.messages.FieldMatchKind.TheVariants as given
 use Rattle.p4_types.specs.declared.messages.Param.{Param}
 use Rattle.p4_types.specs.declared.messages.ReadRequest.{ReadRequest}
+use Rattle.p4_types.specs.declared.messages.TableAction.{TableAction}
 use Rattle.p4_types.specs.declared.messages.TableAction.TheVariants as actions
 use Rattle.p4_types.specs.declared.messages.TableEntry.{TableEntry}
 use Rattle.p4_types.specs.declared.table.ActionCall.{ActionCall}
 use Rattle.p4_types.specs.declared.table.DefaultAction.{DefaultAction}
 use Rattle.p4_types.specs.declared.table.Entry.{Entry}
-use Rattle.p4_types.specs.declared.table.FieldTest.{FieldTest}
-use Rattle.p4_types.specs.declared.table.FieldTest.TheVariants as tests
+use Rattle.p4_types.specs.declared.table.EntryAction.{EntryAction}
+use Rattle.p4_types.specs.declared.table.EntryAction.TheVariants as entry_actions
+use Rattle.p4_types.specs.declared.keys.FieldTest.{FieldTest}
+use Rattle.p4_types.specs.declared.keys.FieldTest.TheVariants as tests
 use Rattle.canon_bytes.specs.ByteString.{canon}
 use Rattle.p4v1_wire.specs.ResponseRows.{read_response_rows}
 use Rattle.p4v1_wire.specs.Rows.{fields_by}
 use Rattle.wire_fields.specs.Spelling.{spelling}
-use Rattle.switch_spec.specs.Control.{Control, Plane, default_of}
-use Rattle.switch_spec.specs.Entries.{same_name}
-use Rattle.switch_spec.specs.Objects.{table_of, action_of}
-use Rattle.switch_spec.specs.UpdateRules.{is_zero, is_optional, has_match, is_malformed_match, is_too_wide, is_canonical_match, name_of}
+use Rattle.plane_spec.specs.Planes.{Control, Plane, target, default_entry}
+use Rattle.plane_spec.specs.Entries.{same_name}
+use Rattle.plane_spec.specs.Objects.{table_of, action_of}
+use Rattle.plane_spec.specs.UpdateRules.{is_zero, is_optional, has_match, is_malformed_match, is_too_wide, is_canonical_match, name_of}
 
 -- a match breaks U6, U7 or U8 in its own part
 abbrev pub match_refusal : Table → TableEntry → Option Code
@@ -109,12 +112,18 @@ params_in (Some action) arguments = by_rising (λ p. p.param_id) (map (λ x. par
 abbrev pub shown_action : Info → ActionCall → Action
 shown_action info call = record { action_id = call.action; params = params_in (action_of call.action info) call.arguments }
 
+-- what an entry does as it is answered
+abbrev pub shown_entry_action : Info → EntryAction → TableAction
+shown_entry_action info (entry_actions.Call call) = actions.Action (shown_action info call)
+shown_entry_action info (entry_actions.Member id) = actions.ActionProfileMemberId id
+shown_entry_action info (entry_actions.Group id) = actions.ActionProfileGroupId id
+
 -- an entry of this table, match, priority and action, and nothing else
-abbrev pub plain_entry : ℕ → List FieldMatch → ℤ → Action → TableEntry
+abbrev pub plain_entry : ℕ → List FieldMatch → ℤ → TableAction → TableEntry
 plain_entry table matches priority action = record {
   table_id = table;
   matches = matches;
-  action = Some (Some (actions.Action action));
+  action = Some (Some action);
   priority = priority;
   controller_metadata = 0;
   meter_config = false;
@@ -127,13 +136,13 @@ plain_entry table matches priority action = record {
 -- an entry as it is answered: its fields by rising id
 abbrev pub shown_entry : Info → Entry → TableEntry
 shown_entry info entry =
-    record (plain_entry entry.name.table (matches_in (table_of entry.name.table info) entry.name.tests) entry.name.priority (shown_action info entry.action)) {
+    record (plain_entry entry.name.table (matches_in (table_of entry.name.table info) entry.name.tests) entry.name.priority (shown_entry_action info entry.action)) {
       controller_metadata = entry.controller_metadata;
     }
 
 -- a table's default action as it is answered
 abbrev pub shown_default : Info → DefaultAction → TableEntry
-shown_default info default = record (plain_entry default.table [] (pos 0) (shown_action info default.action)) { is_default_action = true }
+shown_default info default = record (plain_entry default.table [] (pos 0) (actions.Action (shown_action info default.action))) { is_default_action = true }
 
 -- a table that is asked for: the one of that id, or any where the id is 0
 abbrev pub is_asked : TableEntry → ℕ → Bool
@@ -143,7 +152,7 @@ is_asked asked table = (asked.table_id == 0) || (table == asked.table_id)
 abbrev pub selects_in : Option Table → TableEntry → Entry → Bool
 selects_in None asked entry = is_zero asked.priority || int_eq entry.name.priority asked.priority
 selects_in (Some table) asked entry =
-    if has_match asked then same_name (name_of table asked) entry.name else is_zero asked.priority || int_eq entry.name.priority asked.priority
+    if has_match asked then same_name (name_of (Some table) asked) entry.name else is_zero asked.priority || int_eq entry.name.priority asked.priority
 
 -- whether a Read of a table entry selects an entry: of a table that is asked for, and by match and priority
 abbrev pub selects : Option Table → TableEntry → Entry → Bool
@@ -156,13 +165,13 @@ table_ids info = by_rising (λ id. id) (map (λ table. table.preamble.id) info.t
 -- default entries have no priority
 abbrev pub selected_defaults : Plane → TableEntry → List TableEntry
 selected_defaults plane asked =
-    if is_zero asked.priority then map (shown_default plane.info) (filter_map (default_of plane.changed plane.program) (filter (is_asked asked) (table_ids plane.info))) else []
+    if is_zero asked.priority then map (shown_default plane.config.info) (filter_map (default_entry plane) (filter (is_asked asked) (table_ids plane.config.info))) else []
 
 -- what is answered for a table entry that is asked for
 abbrev pub selected_entries : Plane → TableEntry → List TableEntry
 selected_entries plane asked =
     if asked.is_default_action then selected_defaults plane asked
-    else map (shown_entry plane.info) (filter (selects (table_of asked.table_id plane.info) asked) plane.entries)
+    else map (shown_entry plane.config.info) (filter (selects (table_of asked.table_id plane.config.info) asked) plane.entries)
 
 -- what is answered for an entity that is asked for; for other kinds than table entries nothing
 abbrev pub selected : Plane → Option Entity → List Entity
@@ -194,8 +203,8 @@ read_unless None plane list = Ok (read_messages plane list)
 -- the answer to a Read under the program, if there is one; without a program it is refused
 abbrev pub read_in : Option Plane → ReadRequest → Result (List (List ℕ)) Code
 read_in None request = Err codes.FailedPrecondition
-read_in (Some plane) request = read_unless (first_of (map (entity_refusal plane.info) request.entities)) plane request.entities
+read_in (Some plane) request = read_unless (first_of (map (entity_refusal plane.config.info) request.entities)) plane request.entities
 
 -- the messages that answer a Read, or the code of the first entity asked for that is refused
 unfoldable pub read_result : Control → ReadRequest → Result (List (List ℕ)) Code
-read_result c request = if request.device_id == c.device then read_in c.plane request else Err codes.NotFound
+read_result c request = if request.device_id == c.device then read_in (target c) request else Err codes.NotFound

@@ -1,7 +1,6 @@
 -- What it is for a text to be the report of a tape (this project's profile).
 use Rattle.std.specs.Prelude.{◌≡◌, ℕ, ◌+◌, ◌≤◌, ◌==◌, List, [], ◌∷◌, ◌++◌, length, map, filter, count_by, false, if◌then◌else◌, Option, Some, None, option_map, is_some}
 use Rattle.std.specs.List.{filter_map, zip, AllByRecursion}
-use Rattle.p4_types.specs.declared.events.Event.{Event}
 use Rattle.p4_types.specs.declared.events.Start.{Start}
 use Rattle.p4_types.specs.declared.journal.Report.{Report}
 use Rattle.p4_types.specs.declared.records.Record.{Record}
@@ -9,32 +8,34 @@ use Rattle.p4_types.specs.declared.tape.TapeRecord.{TapeRecord}
 use Rattle.p4_types.specs.declared.tape.TapeRecord.TheVariants.{Call, Packet, Leave}
 use Rattle.p4_types.specs.declared.tape.Who.{Who}
 use Rattle.p4_types.specs.declared.tape.Who.TheVariants.{Controller, Worker}
-use Rattle.switch_spec.specs.Answer.{LaneCall, Asks, Leaves}
-use Rattle.switch_spec.specs.Control.{opened, after, Legal}
+use Rattle.switch_spec.specs.Answer.{no_figures, LaneCall, Asks, Leaves}
+use Rattle.plane_spec.specs.Config.{Event}
+use Rattle.plane_spec.specs.Legal.{Legal}
+use Rattle.plane_spec.specs.Planes.{Control, opened, applied, after}
+use Rattle.switch_spec.specs.Counts.{Arrival, Carried, counts_in, cells_in}
 use Rattle.switch_spec.specs.History.{Made, History, Numbered, published, steps_of, is_refused_for_memory}
-use Rattle.switch_spec.specs.Meaning.{meaning, record_of}
+use Rattle.switch_spec.specs.Meaning.{carried}
 use Rattle.switch_spec.specs.ReportText.{is_who, records_of, report_text}
 
--- a packet with the port at which it enters
-abbrev pub Arrival : Type 0
-Arrival = ℕ × List ℕ
-
--- a packet beside its record
-pub record Carried : Type 0 where
-  pub arrival : Arrival
-  pub outcome : Record
-
--- the calls of one controller's lane on the tape, in order
+-- the call of one controller's lane that a record of the tape is
 abbrev pub call_on : ℕ → TapeRecord → Option LaneCall
 call_on lane (Call other method message) = if lane == other then Some (Asks method message) else None
 call_on lane (Leave other) = if lane == other then Some Leaves else None
 call_on lane (Packet other port packet) = None
 
--- the packets of one worker's lane on the tape, in order
+-- the packet of one worker's lane that a record of the tape is
 abbrev pub packet_on : ℕ → TapeRecord → Option Arrival
 packet_on lane (Call other method message) = None
 packet_on lane (Leave other) = None
 packet_on lane (Packet other port packet) = if lane == other then Some (port, packet) else None
+
+-- the calls that a lane makes in a run with this journal: those of the tape; none of its lanes brings bytes of a transport
+abbrev pub calls_on : ℕ → List TapeRecord → List Made → List LaneCall
+calls_on lane tape journal = filter_map (call_on lane) tape
+
+-- the bytes that are sent on lanes of a transport, by rising lane; there are none
+abbrev pub sent_on : List TapeRecord → List Made → List (ℕ × List ℕ)
+sent_on tape journal = []
 
 -- the calls that a lane made
 abbrev pub made_on : ℕ → List Made → List Made
@@ -57,10 +58,10 @@ abbrev pub packets_out : Start → ℕ → List Made → List Arrival
 packets_out start lane journal = filter_map (packet_out start) (made_on lane journal)
 
 -- The outcome is the meaning of the packet after that many steps of the list.
-pub record Fits (start : Start) (list : List Event) (carried : Carried) : Type 0 where
-  pub in_list : carried.outcome.steps ≤ length (steps_of list)
-  pub meant : let r = carried.outcome in
-      r ≡ record_of r.who r.index r.steps (meaning (after start list r.steps) carried.arrival.0 carried.arrival.1)
+pub record Fits (start : Start) (list : List Event) (packet : Carried) : Type 0 where
+  pub in_list : packet.outcome.steps ≤ length (steps_of list)
+  pub meant : let r = packet.outcome in
+      r ≡ carried r.who r.index r.steps (after start list r.steps) packet.arrival.0 packet.arrival.1
 
 -- a lane's packets are numbered 1, 2, 3 and on, and none is after fewer steps than one before it
 abbrev pub InTurn : List Record → List Record → Type 0
@@ -80,7 +81,7 @@ Covers lane journal records =
 -- The journal and the records are a run of the tape, in some interleaving of its lanes.
 pub record IsRun (start : Start) (tape : List TapeRecord) (journal : List Made) (records : List Carried) : Type 0 where
   -- each lane's calls whole, in order, each once
-  pub calls : (lane : ℕ) → map (λ made. made.call) (made_on lane journal) ≡ filter_map (call_on lane) tape
+  pub calls : (lane : ℕ) → map (λ made. made.call) (made_on lane journal) ≡ calls_on lane tape journal
   pub numbered : Numbered [] (map (λ made. made.entry) journal)
   -- each reply is the answer in the state that the earlier entries left
   pub history : History (opened start) 0 journal
@@ -93,34 +94,65 @@ pub record IsRun (start : Start) (tape : List TapeRecord) (journal : List Made) 
   -- each packet's outcome is its meaning after its steps
   pub fits : AllByRecursion (Fits start (published start journal)) records
 
--- Journal and records follow the tape: each packet is after just the steps of the calls before it.
-abbrev pub Lockstep : ℕ → List TapeRecord → List Made → List Carried → Type 0
-Lockstep n [] journal records = (journal ≡ []) × (records ≡ [])
-Lockstep n (Call lane method message ∷ tape) [] records = ⊥
-Lockstep n (Call lane method message ∷ tape) (made ∷ journal) records =
-    (made.entry.lane ≡ lane) × (made.call ≡ Asks method message) × Lockstep made.entry.reply.steps tape journal records
-Lockstep n (Leave lane ∷ tape) [] records = ⊥
-Lockstep n (Leave lane ∷ tape) (made ∷ journal) records =
-    (made.entry.lane ≡ lane) × (made.call ≡ Leaves) × Lockstep made.entry.reply.steps tape journal records
-Lockstep n (Packet lane port packet ∷ tape) journal [] = ⊥
-Lockstep n (Packet lane port packet ∷ tape) journal (carried ∷ records) =
-    (carried.outcome.who ≡ Worker lane) × (carried.arrival ≡ (port, packet)) × (carried.outcome.steps ≡ n) × Lockstep n tape journal records
+-- the packets that are carried after one that a call made enter
+abbrev pub carried_after : Option Arrival → List Carried → List Carried
+carried_after None records = records
+carried_after (Some arrival) [] = []
+carried_after (Some arrival) (first ∷ records) = records
 
--- what the report shows of a run; the bridge counts nothing, and no lane holds bytes of a transport
-abbrev pub report_of : List Made → List Carried → Report
-report_of journal records = record { journal = map (λ made. made.entry) journal; sent = []; records = map (λ carried. carried.outcome) records; counts = []; cells = [] }
+-- the packet that a call made enter is carried directly after the call
+abbrev pub IsFollowed : Option Arrival → Made → List Carried → Type 0
+IsFollowed None made records = Unit {0}
+IsFollowed (Some arrival) made [] = ⊥
+IsFollowed (Some arrival) made (first ∷ records) =
+    (first.outcome.who ≡ Controller made.entry.lane) × (first.arrival ≡ arrival) × (first.outcome.steps ≡ made.entry.reply.steps)
+
+-- the entry is the next call of a lane, and the packet that it makes enter follows
+pub record IsNext (start : Start) (lane : ℕ) (call : LaneCall) (made : Made) (records : List Carried) : Type 0 where
+  pub lane_is : made.entry.lane ≡ lane
+  pub call_is : made.call ≡ call
+  -- no counter is served yet
+  pub counted : made.figures ≡ no_figures
+  pub followed : IsFollowed (packet_out start made) made records
+
+-- Journal and records follow the tape: each packet is after just the steps of the calls before it.
+abbrev pub Lockstep : Start → ℕ → List TapeRecord → List Made → List Carried → Type 0
+Lockstep start n [] journal records = (journal ≡ []) × (records ≡ [])
+Lockstep start n (Call lane method message ∷ tape) [] records = ⊥
+Lockstep start n (Call lane method message ∷ tape) (made ∷ journal) records =
+    IsNext start lane (Asks method message) made records × Lockstep start made.entry.reply.steps tape journal (carried_after (packet_out start made) records)
+Lockstep start n (Leave lane ∷ tape) [] records = ⊥
+Lockstep start n (Leave lane ∷ tape) (made ∷ journal) records =
+    IsNext start lane Leaves made records × Lockstep start made.entry.reply.steps tape journal (carried_after (packet_out start made) records)
+Lockstep start n (Packet lane port packet ∷ tape) journal [] = ⊥
+Lockstep start n (Packet lane port packet ∷ tape) journal (carried ∷ records) =
+    (carried.outcome.who ≡ Worker lane) × (carried.arrival ≡ (port, packet)) × (carried.outcome.steps ≡ n) × Lockstep start n tape journal records
+
+-- the control state at the end of a run
+abbrev pub final : Start → List Made → Control
+final start journal = applied (opened start) (published start journal)
+
+-- what the report shows of a run: the counts are those of the plane that is active at its end
+abbrev pub report_of : Start → List TapeRecord → List Made → List Carried → Report
+report_of start tape journal records = record {
+  journal = map (λ made. made.entry) journal;
+  sent = sent_on tape journal;
+  records = map (λ carried. carried.outcome) records;
+  counts = counts_in (final start journal).active records;
+  cells = cells_in (final start journal).active records;
+}
 
 -- The text is the report of a run of the tape.
 pub record IsReport (start : Start) (tape : List TapeRecord) (text : List ℕ) : Type 0 where
   pub journal : List Made
   pub records : List Carried
   pub run : IsRun start tape journal records
-  pub written : text ≡ report_text (report_of journal records)
+  pub written : text ≡ report_text (report_of start tape journal records)
 
 -- The text is the report of the run that follows the tape.
 pub record IsLockstepReport (start : Start) (tape : List TapeRecord) (text : List ℕ) : Type 0 where
   pub report : IsReport start tape text
-  pub lockstep : Lockstep 0 tape report.journal report.records
+  pub lockstep : Lockstep start 0 tape report.journal report.records
 
 -- Where no call is refused for memory the tape determines the report.
 abbrev pub TapeDeterminesReport : Type 0

@@ -1,5 +1,5 @@
 -- The text of a report, line by line (this project's profile).
-use Rattle.std.specs.Prelude.{ℕ, ◌+◌, ◌==◌, Bool, false, if◌then◌else◌, List, [], ◌∷◌, ◌++◌, length, map, filter, sum_by, codes, Option}
+use Rattle.std.specs.Prelude.{ℕ, ◌+◌, ◌==◌, Bool, false, List, [], ◌∷◌, ◌++◌, length, map, filter, sum_by, codes}
 use Rattle.std.specs.List.{flat_map}
 use Rattle.std.specs.Fmt.{decimal}
 use Rattle.p4_types.specs.CodeNumber.{code_number}
@@ -12,13 +12,22 @@ use Rattle.p4_types.specs.declared.journal.CountLine.{CountLine}
 use Rattle.p4_types.specs.declared.journal.CellLine.{CellLine}
 use Rattle.p4_types.specs.declared.journal.Report.{Report}
 use Rattle.p4_types.specs.declared.messages.StreamMessageResponse.{StreamMessageResponse}
+use Rattle.p4_types.specs.declared.messages.PacketIn.{PacketIn}
+use Rattle.p4_types.specs.declared.messages.P4Data.{P4Data}
+use Rattle.p4_types.specs.declared.records.CpuMessage.{CpuMessage}
+use Rattle.p4_types.specs.declared.records.DropReason.{DropReason}
+use Rattle.p4_types.specs.declared.records.DropReason.TheVariants as reasons
+use Rattle.p4_types.specs.declared.records.Fate.{Fate}
+use Rattle.p4_types.specs.declared.records.Fate.TheVariants as fates
 use Rattle.p4_types.specs.declared.records.HitMark.{HitMark}
 use Rattle.p4_types.specs.declared.records.HitMark.TheVariants as marks
+use Rattle.p4_types.specs.declared.records.Output.{Output}
 use Rattle.p4_types.specs.declared.records.Record.{Record}
+use Rattle.p4_types.specs.declared.records.Sample.{Sample}
 use Rattle.p4_types.specs.declared.tape.Who.{Who}
 use Rattle.p4_types.specs.declared.tape.Who.TheVariants as who
 use Rattle.p4v1_wire.specs.Rows.{fields_by}
-use Rattle.p4v1_wire.specs.StreamRows.{stream_rows}
+use Rattle.p4v1_wire.specs.StreamRows.{packet_in_rows, p4data_rows, stream_rows}
 use Rattle.wire_fields.specs.Spelling.{spelling}
 use Rattle.switch_spec.specs.Text.{hex_word, pair_word, list_word, option_word, line, count_up}
 
@@ -67,17 +76,37 @@ abbrev pub who_word : Who → List ℕ
 who_word (who.Controller lane) = codes "c" ++ decimal lane
 who_word (who.Worker lane) = codes "w" ++ decimal lane
 
--- the fate of a packet: sent, or dropped and the reason
-abbrev pub fate_word : ℕ → List ℕ
-fate_word fate = if fate == 0 then codes "sent" else codes "drop" ++ decimal fate
+-- the number of a reason for which a packet was dropped
+abbrev pub reason_number : DropReason → ℕ
+reason_number reasons.ByPipeline = 1
+reason_number reasons.WithoutPipeline = 2
+reason_number reasons.TooLong = 3
+reason_number reasons.TooShortForController = 4
 
--- a number and bytes
-abbrev pub tagged_word : ℕ × List ℕ → List ℕ
-tagged_word x = pair_word (decimal x.0) (hex_word x.1)
+-- the fate of a packet: sent, or dropped and the reason
+abbrev pub fate_word : Fate → List ℕ
+fate_word fates.Sent = codes "sent"
+fate_word (fates.Dropped reason) = codes "drop" ++ decimal (reason_number reason)
+
+-- what leaves at a port
+abbrev pub output_word : Output → List ℕ
+output_word output = pair_word (decimal output.port) (hex_word output.bytes)
+
+-- the bytes of a PacketIn
+abbrev pub packet_in_bytes : PacketIn → List ℕ
+packet_in_bytes packet = spelling (fields_by packet_in_rows packet)
 
 -- a packet to a controller's lane, or to none
-abbrev pub cpu_word : Option ℕ × List ℕ → List ℕ
-cpu_word x = pair_word (option_word decimal x.0) (hex_word x.1)
+abbrev pub cpu_word : CpuMessage → List ℕ
+cpu_word message = pair_word (option_word decimal message.lane) (hex_word (packet_in_bytes message.packet))
+
+-- the bytes of a digest's data
+abbrev pub p4data_bytes : P4Data → List ℕ
+p4data_bytes content = spelling (fields_by p4data_rows content)
+
+-- what a packet gives to a digest
+abbrev pub sample_word : Sample → List ℕ
+sample_word sample = pair_word (decimal sample.digest) (hex_word (p4data_bytes sample.content))
 
 -- what a packet hit: a table's entry by its sequence number, or a counter's cell by its slot
 abbrev pub mark_word : HitMark → List ℕ
@@ -86,8 +115,8 @@ mark_word (marks.Cell slot) = codes "@" ++ decimal slot
 
 -- a packet: its lane and number, the steps before it, its fate, what it sent and what it hit
 abbrev pub packet_line : Record → List ℕ
-packet_line r = line (codes "packet" ∷ who_word r.who ∷ decimal r.index ∷ decimal r.steps ∷ fate_word r.fate ∷ list_word tagged_word r.outputs
-    ∷ list_word cpu_word r.cpu ∷ option_word tagged_word r.digest ∷ list_word mark_word r.hits ∷ [])
+packet_line r = line (codes "packet" ∷ who_word r.who ∷ decimal r.index ∷ decimal r.steps ∷ fate_word r.fate ∷ list_word output_word r.outputs
+    ∷ list_word cpu_word r.cpu ∷ option_word sample_word r.digest ∷ list_word mark_word r.hits ∷ [])
 
 -- the same lane
 abbrev pub is_who : Who → Who → Bool

@@ -1,11 +1,12 @@
 -- Worked runs, each with the bytes of its tape and the text of its report.
 use Rattle.std.specs.Prelude.{◌≡◌, ℕ, true, false, List, [], ◌∷◌, codes}
 use Rattle.hex.specs.Hex.{encode_lower}
+use Rattle.p4_types.specs.declared.calls.Method.TheVariants as methods
 use Rattle.p4_types.specs.declared.events.Start.{Start}
 use Rattle.p4_types.specs.declared.tape.TapeRecord.{TapeRecord}
 use Rattle.p4_types.specs.declared.tape.TapeRecord.TheVariants.{Call, Packet, Leave}
 use Rattle.wire_fields.specs.Spelling.{spelling, number_field, bytes_field}
-use Rattle.switch_spec.specs.Bridge.{bridge_table, forward_action}
+use Rattle.plane_spec.specs.Bridge.{bridge_table, forward_action}
 use Rattle.switch_spec.specs.Report.{IsLockstepReport}
 use Rattle.switch_spec.specs.Tape.{tape_bytes}
 
@@ -45,7 +46,7 @@ insert_bytes address = spelling (number_field 1 1 ∷ bytes_field 3 (spelling (n
 
 -- controller 0 inserts the address of this one byte, to port 2
 abbrev pub inserting : ℕ → TapeRecord
-inserting address = Call 0 1 (insert_bytes address)
+inserting address = Call 0 methods.Write (insert_bytes address)
 
 -- a frame of 14 bytes from address 1 to the address of this last byte
 abbrev pub frame_to : ℕ → List ℕ
@@ -91,11 +92,11 @@ id_bytes id = spelling (number_field 2 id ∷ [])
 
 -- a controller asks for role 0 with this election id (StreamMessageRequest, MasterArbitrationUpdate)
 abbrev pub arbitrating : ℕ → ℕ → TapeRecord
-arbitrating lane id = Call lane 5 (spelling (bytes_field 1 (spelling (number_field 1 1 ∷ bytes_field 3 (id_bytes id) ∷ [])) ∷ []))
+arbitrating lane id = Call lane methods.StreamChannel (spelling (bytes_field 1 (spelling (number_field 1 1 ∷ bytes_field 3 (id_bytes id) ∷ [])) ∷ []))
 
 -- a controller writes no updates with this election id
 abbrev pub writing_nothing : ℕ → ℕ → TapeRecord
-writing_nothing lane id = Call lane 1 (spelling (number_field 1 1 ∷ bytes_field 3 (id_bytes id) ∷ []))
+writing_nothing lane id = Call lane methods.Write (spelling (number_field 1 1 ∷ bytes_field 3 (id_bytes id) ∷ []))
 
 -- where the primary leaves, a backup of a lower election id stays one until it names a higher one
 abbrev pub BackupWaits : Type 0

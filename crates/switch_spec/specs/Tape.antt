@@ -1,7 +1,9 @@
 -- The grammar of tapes (this project's profile).
-use Rattle.std.specs.Prelude.{◌≡◌, ℕ, ◌<◌, ◌≤◌, List, [], ◌∷◌, ◌++◌, length, take, codes, All}
+use Rattle.std.specs.Prelude.{◌≡◌, ℕ, ◌+◌, ◌<◌, ◌≤◌, ◌==◌, Bool, true, false, if◌then◌else◌, List, [], ◌∷◌, ◌++◌, length, take, codes}
 use Rattle.std.specs.List.{flat_map}
 use Rattle.std.specs.Int.{w16, w32, to_be_bytes}
+use Rattle.p4_types.specs.declared.calls.Method.{Method}
+use Rattle.p4_types.specs.declared.calls.Method.TheVariants as methods
 use Rattle.p4_types.specs.declared.tape.TapeRecord.{TapeRecord}
 use Rattle.p4_types.specs.declared.tape.TapeRecord.TheVariants.{Call, Packet, Leave}
 
@@ -9,17 +11,24 @@ use Rattle.p4_types.specs.declared.tape.TapeRecord.TheVariants.{Call, Packet, Le
 abbrev pub framed : ℕ → ℕ → List ℕ → List ℕ
 framed kind lane payload = kind ∷ to_be_bytes w16 lane ++ to_be_bytes w32 (length payload) ++ payload
 
+-- the number of a method on a tape
+abbrev pub method_number : Method → ℕ
+method_number methods.Write = 1
+method_number methods.Read = 2
+method_number methods.SetForwardingPipelineConfig = 3
+method_number methods.GetForwardingPipelineConfig = 4
+method_number methods.StreamChannel = 5
+method_number methods.Capabilities = 6
+
 -- how a record stands on a tape
 abbrev pub record_bytes : TapeRecord → List ℕ
-record_bytes (Call lane method message) = framed 1 lane (method ∷ message)
+record_bytes (Call lane method message) = framed 1 lane (method_number method ∷ message)
 record_bytes (Packet lane port packet) = framed 2 lane (to_be_bytes w16 port ++ packet)
 record_bytes (Leave lane) = framed 4 lane []
 
--- what is true of the record of a call: one of 32 controllers' lanes, a method of P4Runtime, a message of at most 8 MiB
-pub record IsCall (lane method : ℕ) (message : List ℕ) : Type 0 where
+-- what is true of the record of a call: one of 32 controllers' lanes, a message of at most 8 MiB
+pub record IsCall (lane : ℕ) (message : List ℕ) : Type 0 where
   pub of_controller : lane < 32
-  pub low_method : 1 ≤ method
-  pub high_method : method ≤ 6
   pub size : length message ≤ 8388608
 
 -- what is true of the record of a packet: one of 16 workers' lanes, a port, at most 9,216 bytes
@@ -32,11 +41,39 @@ pub record IsPacket (lane port : ℕ) (packet : List ℕ) : Type 0 where
 pub record IsLeave (lane : ℕ) : Type 0 where
   pub of_controller : lane < 32
 
--- a record that may stand on a tape
+-- what the records of a tape so far say of its lanes: how many calls each controller's lane has made, and whether its stream has ended
+pub record Lanes : Type 0 where
+  pub calls : ℕ → ℕ
+  pub has_left : ℕ → Bool
+
+-- before the first record
+abbrev pub no_lanes : Lanes
+no_lanes = record { calls = λ lane. 0; has_left = λ lane. false }
+
+-- the end of a stream is a call too
+abbrev pub with_call : ℕ → Lanes → Lanes
+with_call lane lanes = record lanes { calls = λ other. if other == lane then lanes.calls other + 1 else lanes.calls other }
+
+-- the lanes behind a record
+abbrev pub lanes_after : Lanes → TapeRecord → Lanes
+lanes_after lanes (Call lane method message) = with_call lane lanes
+lanes_after lanes (Packet lane port packet) = lanes
+lanes_after lanes (Leave lane) = record (with_call lane lanes) { has_left = λ other. if other == lane then true else lanes.has_left other }
+
+-- A record that may stand on a tape, behind records that say this of the lanes; those of these kinds may stand behind any.
 abbrev pub IsRecord : TapeRecord → Type 0
-IsRecord (Call lane method message) = IsCall lane method message
+IsRecord (Call lane method message) = IsCall lane message
 IsRecord (Packet lane port packet) = IsPacket lane port packet
 IsRecord (Leave lane) = IsLeave lane
+
+-- the record may stand where the lanes are so
+abbrev pub MayStand : Lanes → TapeRecord → Type 0
+MayStand lanes item = IsRecord item
+
+-- each record may stand behind those before it
+abbrev pub AreRecords : Lanes → List TapeRecord → Type 0
+AreRecords lanes [] = Unit {0}
+AreRecords lanes (item ∷ items) = MayStand lanes item × AreRecords (lanes_after lanes item) items
 
 -- the bytes with which each tape begins
 abbrev pub magic : List ℕ
@@ -53,7 +90,7 @@ tape_bytes records = magic ++ (flat_map record_bytes records ++ end_bytes)
 -- the bytes are the tape of these records
 pub record IsTape (bytes : List ℕ) (records : List TapeRecord) : Type 0 where
   pub spelled : bytes ≡ tape_bytes records
-  pub each : All IsRecord records
+  pub each : AreRecords no_lanes records
 
 -- some tape begins with these bytes
 pub record BeginsTape (bytes : List ℕ) : Type 0 where

@@ -1,8 +1,8 @@
 -- What holds of tapes and of their reading.
-use Rattle.std.specs.Prelude.{◌≡◌, ℕ, ◌-◌, ◌≤◌, List, ◌∷◌, ◌++◌, length, Ok, Err, All}
+use Rattle.std.specs.Prelude.{◌≡◌, ℕ, ◌-◌, ◌≤◌, List, ◌∷◌, ◌++◌, length, Ok, Err}
 use Rattle.std.specs.List.{flat_map}
 use Rattle.p4_types.specs.declared.tape.TapeRecord.{TapeRecord}
-use Rattle.switch_spec.specs.Tape.{record_bytes, IsRecord, magic, IsTape, IsLongestBeginning}
+use Rattle.switch_spec.specs.Tape.{record_bytes, no_lanes, AreRecords, magic, IsTape, IsLongestBeginning}
 use Rattle.switch_spec.specs.TapeReading.{Bad, TooMany, tape_at}
 
 -- the bytes are the tape of no records
@@ -15,7 +15,7 @@ pub record GoesPast (limit : ℕ) (bytes : List ℕ) (left : ℕ) : Type 0 where
   pub kind : ℕ
   pub rest : List ℕ
   pub spelled : bytes ≡ magic ++ (flat_map record_bytes records ++ kind ∷ rest)
-  pub each : All IsRecord records
+  pub each : AreRecords no_lanes records
   pub full : length records ≡ limit
   pub low_kind : 1 ≤ kind
   pub high_kind : kind ≤ 5

@@ -1,5 +1,7 @@
 -- A tape read from left to right. An error says how many bytes are left from the first bad byte on; 0 says that bytes are missing.
 use Rattle.std.specs.Prelude.{ℕ, zero, suc, ◌+◌, ◌-◌, ◌*◌, ◌^◌, min, nat_lt, nat_le, ◌==◌, ◌||◌, ◌&&◌, Bool, if◌then◌else◌, List, [], ◌∷◌, length, take, drop, Option, Some, None, Result, Ok, Err}
+use Rattle.p4_types.specs.declared.calls.Method.{Method}
+use Rattle.p4_types.specs.declared.calls.Method.TheVariants as methods
 use Rattle.p4_types.specs.declared.tape.TapeRecord.{TapeRecord}
 use Rattle.p4_types.specs.declared.tape.TapeRecord.TheVariants.{Call, Packet, Leave}
 use Rattle.wire_fields.specs.Reading.{◌>>=◌}
@@ -31,6 +33,15 @@ text_at [] bytes = Ok bytes
 text_at (c ∷ text) [] = Err 0
 text_at (c ∷ text) (b ∷ bytes) = if b == c then text_at text bytes else Err (length (b ∷ bytes))
 
+-- a method by its number, 1 to 6
+abbrev pub method_of : ℕ → Method
+method_of n =
+    if n == 1 then methods.Write else
+    if n == 2 then methods.Read else
+    if n == 3 then methods.SetForwardingPipelineConfig else
+    if n == 4 then methods.GetForwardingPipelineConfig else
+    if n == 5 then methods.StreamChannel else methods.Capabilities
+
 -- what stands behind the kind of a call
 unfoldable pub call_at : List ℕ → Result (TapeRecord × List ℕ) ℕ
 call_at bytes = do
@@ -38,7 +49,7 @@ call_at bytes = do
   size ← number_at 4 1 8388609 lane.1
   method ← number_at 1 1 6 size.1
   message ← bytes_at (size.0 - 1) method.1
-  Ok (Call lane.0 method.0 message.0, message.1)
+  Ok (Call lane.0 (method_of method.0) message.0, message.1)
 
 -- what stands behind the kind of a packet
 unfoldable pub packet_at : List ℕ → Result (TapeRecord × List ℕ) ℕ

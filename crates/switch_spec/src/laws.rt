@@ -1,7 +1,7 @@
 //! Laws about the definitions. Each function's contract is the law; its body does nothing.
+ghost use Rattle.switch_spec.specs.Answer.{EventsIgnoreFigures};
 ghost use Rattle.switch_spec.specs.Play.{PlayedIsReport};
 ghost use Rattle.switch_spec.specs.Report.{TapeDeterminesReport};
-ghost use Rattle.switch_spec.specs.RoleLaws.{RolesStaySound};
 ghost use Rattle.switch_spec.specs.Rows.{EmptyTape, OneEntryOnePacket, InsertTwice, TableFull, ShortPacket, BackupWaits};
 
 /// One pass over a tape gives a report of it, the one that follows the tape.
@@ -14,9 +14,9 @@ pub fn tape_determines_report()
     ensures law { TapeDeterminesReport }
 {}
 
-/// In each state of a run the roles are sound: a role has one primary at most.
-pub fn roles_stay_sound()
-    ensures law { RolesStaySound }
+/// What a call does does not depend on what the counters have counted.
+pub fn events_ignore_figures()
+    ensures law { EventsIgnoreFigures }
 {}
 
 /// Worked runs, with their bytes and texts.

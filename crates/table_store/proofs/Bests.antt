@@ -9,7 +9,7 @@ use Rattle.std.proofs.lemmas.List.Folds.{list_any_at, list_any_none}
 use Rattle.std.proofs.lemmas.List.MinMax.{IsFirstBest-from_best_of}
 use Rattle.std.proofs.lemmas.List.Sums.{fold_push}
 use Rattle.p4_types.specs.declared.table.Entry.{Entry}
-use Rattle.switch_spec.specs.Entries.{hits, beats, best}
+use Rattle.plane_spec.specs.Entries.{hits, beats, best}
 use Rattle.table_store.specs.Scan.{wins}
 use Rattle.table_store.proofs.Lists.{find_first}
 use Rattle.table_store.proofs.Ranks.{beats_ranks}

@@ -10,8 +10,8 @@ use Rattle.std.proofs.lemmas.List.Elements.{filter-append}
 use Rattle.p4_types.specs.declared.table.Entry.{Entry}
 use Rattle.p4_types.specs.declared.table.EntryChange.{EntryChange}
 use Rattle.p4_types.specs.declared.table.EntryName.{EntryName}
-use Rattle.switch_spec.specs.Entries.{same_name, with_change, entry_named, inserted, modified, deleted}
-use Rattle.switch_spec.proofs.Lists.{All-weaken, All-snoc, All-filter}
+use Rattle.plane_spec.specs.Entries.{same_name, with_change, entry_named, inserted, modified, deleted}
+use Rattle.plane_spec.proofs.Lists.{All-weaken, All-snoc, All-filter}
 use Rattle.table_store.specs.declared.groups.Group.{Group}
 use Rattle.table_store.specs.Groups.{flat, AreOf, AreInOrder, IsBefore, IsFresh, IsGroup, AreGroups, IsAt, IsGap}
 use Rattle.table_store.proofs.Lists.{each_append, each_front, each_back, each_map, filter_all, filter_none}

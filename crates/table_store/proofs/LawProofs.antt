@@ -8,7 +8,7 @@ use Rattle.std.proofs.lemmas.List.Elements.{All-filter, All-from_recursion, recu
 use Rattle.std.proofs.lemmas.List.MinMax.{IsFirstBest-from_best_of}
 use Rattle.p4_types.specs.declared.table.Entry.{Entry}
 use Rattle.p4_types.specs.declared.table.EntryName.{EntryName}
-use Rattle.switch_spec.specs.Entries.{same_name, hits, beats}
+use Rattle.plane_spec.specs.Entries.{same_name, hits, beats}
 use Rattle.table_store.specs.Laws.{NamesTell, BestWins, NoneIsBest, OneBeats}
 use Rattle.table_store.proofs.Bests.{scanned, best_is_scanned}
 use Rattle.table_store.proofs.Lists.{filter_none}

@@ -1,7 +1,7 @@
 pub mod Bests
 pub mod Bits
 pub mod ByTable
-pub mod Drafts
+pub mod Undo
 pub mod LawProofs
 pub mod Lists
 pub mod Names

@@ -2,9 +2,9 @@
 use Rattle.std.proofs.Common.{◌≡◌, ℕ, ℤ, Bool, true, false, ◌&&◌, eqb, List, [], ◌∷◌, refl, arith}
 use Rattle.std.proofs.lemmas.Bool.Decides.{nat_tests, Decides-int_eq}
 use Rattle.p4_types.specs.declared.table.EntryName.{EntryName}
-use Rattle.p4_types.specs.declared.table.FieldTest.{FieldTest}
-use Rattle.p4_types.specs.declared.table.FieldTest.TheVariants as tests
-use Rattle.switch_spec.specs.Entries.{same_test, same_tests, same_name}
+use Rattle.p4_types.specs.declared.keys.FieldTest.{FieldTest}
+use Rattle.p4_types.specs.declared.keys.FieldTest.TheVariants as tests
+use Rattle.plane_spec.specs.Entries.{same_test, same_tests, same_name}
 
 pub both : (a b : Bool) → (a && b) ≡ true → (a ≡ true) × (b ≡ true)
 both true b h = (refl, h)

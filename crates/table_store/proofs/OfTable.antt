@@ -1,5 +1,5 @@
 -- What is asked of the entries of one table alone, and what is fresh in them.
-use Rattle.std.proofs.Common.{◌≡◌, ℕ, ◌+◌, ◌<◌, ◌≤◌, Bool, true, false, ◌&&◌, ◌||◌, not, leb, ltb, if◌then◌else◌, eqb, cond, List, [], ◌∷◌, ◌++◌, length, Option, Some, None, is_some, refl, sym, ap, subst, ◌∙◌, arith}
+use Rattle.std.proofs.Common.{◌≡◌, ℕ, ◌+◌, ◌<◌, ◌≤◌, Bool, true, false, ◌||◌, not, leb, ltb, if◌then◌else◌, eqb, cond, List, [], ◌∷◌, ◌++◌, length, Option, Some, None, is_some, refl, sym, ap, subst, ◌∙◌, arith}
 use Rattle.std.specs.Prelude.{filter, find, count_by}
 use Rattle.std.specs.List.{AllByRecursion, All, list_any}
 use Rattle.std.specs.Option.{option_map}
@@ -14,7 +14,7 @@ use Rattle.p4_types.specs.declared.table.EntryChange.{EntryChange}
 use Rattle.p4_types.specs.declared.table.EntryName.{EntryName}
 use Rattle.p4_types.specs.declared.info.Table.{Table}
 use Rattle.p4_types.specs.declared.table.Room.{Room}
-use Rattle.switch_spec.specs.Entries.{same_name, entry_named, hits, beats, best, inserted, modified, all_pass, new_entry, next_number, table_size, is_counted, is_full, insert_cause, absence_cause}
+use Rattle.plane_spec.specs.Entries.{same_name, entry_named, hits, beats, best, inserted, modified, all_pass, new_entry, next_number, table_size, slots_drawn, is_full, insert_cause, absence_cause}
 use Rattle.table_store.specs.Groups.{IsFresh}
 use Rattle.table_store.proofs.Lists.{find_filter, filter_filter}
 use Rattle.table_store.proofs.OneTable.{one}
@@ -78,17 +78,20 @@ by_size a r s n h = rw h refl
 by_room : (a r s n : Bool) → a ≡ false → ((r || s) || n) ≡ (((a || r) || s) || n)
 by_room a r s n h = rw h refl
 
-sizes : (table : Table) (entries own : List Entry) (size : ℕ) → own ≡ filter (λ e. eqb e.name.table table.preamble.id) entries → size ≡ table_size table → leb size (length own) ≡ leb (table_size table) (count_by (λ e. eqb e.name.table table.preamble.id) entries)
-sizes table entries own size is same = rw (is, same, length-filter (λ e. eqb e.name.table table.preamble.id) entries) refl
+at_most : (m n : ℕ) → leb m n ≡ ltb m (n + 1)
+at_most m n = grind (arith, nat_tests)
+
+sizes : (table : Table) (entries own : List Entry) (size : ℕ) → own ≡ filter (λ e. eqb e.name.table table.preamble.id) entries → size ≡ table_size table → leb size (length own) ≡ ltb (table_size table) (count_by (λ e. eqb e.name.table table.preamble.id) entries + 1)
+sizes table entries own size is same = at_most size (length own) ∙ rw (is, same, length-filter (λ e. eqb e.name.table table.preamble.id) entries) refl
 
 pub full_by_size : (table : Table) (room : Room) (entries own : List Entry) (size : ℕ) → own ≡ filter (λ e. eqb e.name.table table.preamble.id) entries → size ≡ table_size table → size ≤ length own → leb size (length own) ≡ is_full table room entries
 full_by_size table room entries own size is same full =
     let h = le-leb size (length own) full in
-    h ∙ sym (by_size _ (eqb room.rows 0) (is_counted table && eqb room.slots 0) (eqb room.numbers 0) (sym (sizes table entries own size is same) ∙ h))
+    h ∙ sym (by_size _ (ltb room.rows 1) (ltb room.slots (slots_drawn table)) (ltb room.numbers 1) (sym (sizes table entries own size is same) ∙ h))
 
-pub full_by_room : (table : Table) (room : Room) (entries own : List Entry) (size : ℕ) (lacks : Bool) → own ≡ filter (λ e. eqb e.name.table table.preamble.id) entries → size ≡ table_size table → length own < size → lacks ≡ ((eqb room.rows 0 || (is_counted table && eqb room.slots 0)) || eqb room.numbers 0) → lacks ≡ is_full table room entries
+pub full_by_room : (table : Table) (room : Room) (entries own : List Entry) (size : ℕ) (lacks : Bool) → own ≡ filter (λ e. eqb e.name.table table.preamble.id) entries → size ≡ table_size table → length own < size → lacks ≡ ((ltb room.rows 1 || ltb room.slots (slots_drawn table)) || ltb room.numbers 1) → lacks ≡ is_full table room entries
 full_by_room table room entries own size lacks is same free lack =
-    lack ∙ by_room _ (eqb room.rows 0) (is_counted table && eqb room.slots 0) (eqb room.numbers 0) (sym (sizes table entries own size is same) ∙ lt-leb size (length own) free)
+    lack ∙ by_room _ (ltb room.rows 1) (ltb room.slots (slots_drawn table)) (ltb room.numbers 1) (sym (sizes table entries own size is same) ∙ lt-leb size (length own) free)
 
 pub length_modified : (change : EntryChange) (entries : List Entry) → length (modified change entries) ≡ length entries
 unfolding modified

@@ -5,10 +5,11 @@ use Rattle.std.proofs.lemmas.List.Elements.{All-from_recursion}
 use Rattle.std.proofs.lemmas.List.{take_rest}
 use Rattle.std.proofs.lemmas.List.Kept.{AllPairs-cons}
 use Rattle.p4_types.specs.declared.table.Entry.{Entry}
-use Rattle.switch_spec.proofs.Lists.{All-weaken}
+use Rattle.plane_spec.proofs.Lists.{All-weaken}
 use Rattle.table_store.specs.declared.groups.Group.{Group}
 use Rattle.table_store.specs.Groups.{flat, AreOf, AreInOrder, IsBefore, AreGroups}
-use Rattle.table_store.specs.Order.{StandsBefore, AreOfOneTable, AreOfLowerTables}
+use Rattle.plane_spec.specs.Order.{StandsBefore}
+use Rattle.table_store.specs.Order.{AreOfOneTable, AreOfLowerTables}
 use Rattle.table_store.proofs.ByTable.{above_flat, elsewhere, lower}
 use Rattle.table_store.proofs.Lists.{each_append}
 use Rattle.table_store.proofs.OfTable.{both_each}

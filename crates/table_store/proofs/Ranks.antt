@@ -6,7 +6,7 @@ use Rattle.std.specs.Cmp.{IsStrictWeakOrder}
 use Rattle.std.proofs.lemmas.Bool.Decides.{nat_tests}
 use Rattle.std.proofs.lemmas.Int.{ints}
 use Rattle.p4_types.specs.declared.table.Entry.{Entry}
-use Rattle.switch_spec.specs.Entries.{beats, prefix_length}
+use Rattle.plane_spec.specs.Entries.{beats, prefix_length}
 
 -- `beats` on what it compares: priorities, lengths of prefixes, sequence numbers
 abbrev wins : ℤ → ℤ → ℕ → ℕ → ℕ → ℕ → Bool

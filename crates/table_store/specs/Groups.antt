@@ -2,7 +2,7 @@
 use Rattle.std.specs.Prelude.{◌≡◌, ℕ, ◌<◌, ◌≤◌, false, List, [], ◌∷◌, length, take, drop}
 use Rattle.std.specs.List.{AllByRecursion, flat_map, HoldsAt}
 use Rattle.p4_types.specs.declared.table.Entry.{Entry}
-use Rattle.switch_spec.specs.Entries.{same_name}
+use Rattle.plane_spec.specs.Entries.{same_name}
 use Rattle.table_store.specs.declared.groups.Group.{Group}
 
 -- the entries of the groups, in one list

@@ -3,7 +3,7 @@ use Rattle.std.specs.Prelude.{◌≡◌, ◌≢◌, ◌⊎◌, ◌↔◌, ℕ, t
 use Rattle.std.specs.List.{Contains}
 use Rattle.p4_types.specs.declared.table.Entry.{Entry}
 use Rattle.p4_types.specs.declared.table.EntryName.{EntryName}
-use Rattle.switch_spec.specs.Entries.{same_name, hits, beats, best}
+use Rattle.plane_spec.specs.Entries.{same_name, hits, beats, best}
 
 -- Names are the same just where they are equal.
 abbrev pub NamesTell : Type 0

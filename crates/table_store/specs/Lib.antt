@@ -1,5 +1,5 @@
 pub mod Answers
-pub mod Drafts
+pub mod Undo
 pub mod Groups
 pub mod Laws
 pub mod Order

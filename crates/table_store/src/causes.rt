@@ -1,12 +1,12 @@
 //! Why a change of the tables is refused.
-ghost use Rattle.std.specs.Prelude.{◌≡◌, ◌==◌, ◌&&◌, ◌||◌, is_some};
+ghost use Rattle.std.specs.Prelude.{◌≡◌, ◌||◌, nat_lt, is_some};
 ghost use Rattle.std.specs.Option.{option_map};
-ghost use Rattle.switch_spec.specs.Entries.{entry_named, insert_cause, absence_cause, is_full, table_size, is_counted};
+ghost use Rattle.plane_spec.specs.Entries.{entry_named, insert_cause, absence_cause, is_full, table_size, is_counted, slots_drawn};
 ghost use Rattle.table_store.specs.Groups.{flat, AreGroups};
 
 use crate::groups::{Group, entries_of};
 use crate::rows;
-use p4_types::code::{Cause, Code};
+use p4_types::code::{Cause, Code, Rule};
 use p4_types::info::Table;
 use p4_types::table::{Entry, EntryName, Room};
 
@@ -39,16 +39,17 @@ pub(crate) fn is_counted(table: &Table) -> bool
     !table.direct_counters.is_empty()
 }
 
-fn lacks_slot(table: &Table, room: Room) -> bool
-    ensures { result ≡ (is_counted table.now && (room.slots == 0)) }
+/// How many slots an INSERT into the table draws.
+pub fn slots_drawn(table: &Table) -> u32
+    ensures { result ≡ slots_drawn table.now }
 {
-    is_counted(table) && room.slots == 0
+    if is_counted(table) { 1 } else { 0 }
 }
 
 fn lacks_room(table: &Table, room: Room) -> bool
-    ensures { result ≡ ((room.rows == 0) || (is_counted table.now && (room.slots == 0)) || (room.numbers == 0)) }
+    ensures { result ≡ (nat_lt room.rows 1 || nat_lt room.slots (slots_drawn table.now) || nat_lt room.numbers 1) }
 {
-    room.rows == 0 || lacks_slot(table, room) || room.numbers == 0
+    room.rows < 1 || room.slots < slots_drawn(table) || room.numbers < 1
 }
 
 /// Whether one entry more would exceed the table's size, the rows, the slots or the sequence numbers.
@@ -61,7 +62,7 @@ fn is_full(groups: &[Group], table: &Table, room: Room) -> bool
 }
 
 /// Why an INSERT is refused: the entry is there (U10), or there is no room (U12).
-#[tactic(auto, unfolding(switch_spec::specs::Entries::insert_cause))]
+#[tactic(auto, unfolding(plane_spec::specs::Entries::insert_cause))]
 pub(crate) fn insert_cause(
     groups: &[Group],
     table: &Table,
@@ -73,13 +74,13 @@ pub(crate) fn insert_cause(
 {
     if has(groups, name) {
         return Some(Cause {
-            rule: 10,
+            rule: Rule::U10,
             code: Code::AlreadyExists,
         });
     }
     if is_full(groups, table, room) {
         return Some(Cause {
-            rule: 12,
+            rule: Rule::U12,
             code: Code::ResourceExhausted,
         });
     }
@@ -87,7 +88,7 @@ pub(crate) fn insert_cause(
 }
 
 /// Why a MODIFY or a DELETE is refused: the entry is absent (U10).
-#[tactic(auto, unfolding(switch_spec::specs::Entries::absence_cause))]
+#[tactic(auto, unfolding(plane_spec::specs::Entries::absence_cause))]
 pub(crate) fn absence_cause(groups: &[Group], name: &EntryName) -> Option<Cause>
     requires { AreGroups groups.now }
     ensures { result ≡ absence_cause name.now (flat groups.now) }
@@ -96,7 +97,7 @@ pub(crate) fn absence_cause(groups: &[Group], name: &EntryName) -> Option<Cause>
         return None;
     }
     Some(Cause {
-        rule: 10,
+        rule: Rule::U10,
         code: Code::NotFound,
     })
 }

@@ -1,15 +1,14 @@
 //! Changes of the entries by their tables, which can be undone.
-ghost use Rattle.std.specs.Prelude.{◌≡◌, ◌+◌, ◌<◌, All, length, IfOk, OnOk, OnErr};
-ghost use Rattle.switch_spec.specs.Entries.{insert_cause, absence_cause, new_entry, next_number, inserted, modified, deleted};
+ghost use Rattle.std.specs.Prelude.{◌≡◌, ◌+◌, ◌<◌, All, length, OnOk, OnErr};
+ghost use Rattle.plane_spec.specs.Entries.{insert_cause, absence_cause, new_entry, next_number, inserted, modified, deleted};
 ghost use Rattle.table_store.specs.Answers.{Refuses};
-ghost use Rattle.table_store.specs.Drafts.{IsStep};
+ghost use Rattle.table_store.specs.Undo.{IsStep};
 ghost use Rattle.table_store.specs.Groups.{flat, AreGroups};
 
 use crate::causes::{absence_cause, insert_cause, is_counted};
-use crate::copies::{copy_action, copy_name};
-use crate::error::StoreError;
 use crate::groups::{self, Group};
-use list_types::NoMemory;
+use list_types::Refusal;
+use p4_types::code::Cause;
 use p4_types::info::Table;
 use p4_types::table::{Entry, EntryChange, EntryName, Room};
 use std::alloc::Global;
@@ -17,28 +16,21 @@ use std::alloc::Global;
 /// How many slots of counters the switch has.
 const SLOT_LIMIT: u32 = 1_048_576;
 
-fn new_entry(
-    alloc: Global,
-    table: &Table,
-    room: Room,
-    change: &EntryChange,
-) -> Result<Entry, NoMemory>
-    ensures { IfOk result (λ entry. entry ≡ new_entry table.now room change.now) }
+fn new_entry(table: &Table, room: Room, change: &EntryChange) -> Entry
+    ensures { result ≡ new_entry table.now room change.now }
 {
-    let name = copy_name(alloc, &change.name)?;
-    let action = copy_action(alloc, &change.action)?;
     let slot = if is_counted(table) {
         Some(SLOT_LIMIT.saturating_sub(room.slots))
     } else {
         None
     };
-    Ok(Entry {
-        name,
+    Entry {
+        name: change.name.copy(),
         seq: u64::MAX - room.numbers,
         controller_metadata: change.controller_metadata,
-        action,
+        action: change.action.copy(),
         slot,
-    })
+    }
 }
 
 /// Makes the entry of an INSERT.
@@ -48,7 +40,7 @@ pub(crate) fn insert(
     table: &Table,
     change: &EntryChange,
     room: Room,
-) -> Result<(), StoreError>
+) -> Result<(), Refusal<Cause>>
     requires groups { AreGroups groups.old.items }
     requires table { change.now.name.table ≡ table.now.preamble.id }
     requires above { All (λ entry. entry.seq < next_number room) (flat groups.old.items) }
@@ -59,19 +51,15 @@ pub(crate) fn insert(
     ensures step { IsStep change.now.name.table groups.old.items groups.new.items }
 {
     if let Some(cause) = insert_cause(groups, table, &change.name, room) {
-        return Err(StoreError::Refused(cause));
+        return Err(Refusal::For(cause));
     }
-    let entry = new_entry(alloc, table, room, change)?;
+    let entry = new_entry(table, room, change);
     groups::insert(groups, alloc, entry)?;
     Ok(())
 }
 
 /// Replaces action and metadata of the entry of a MODIFY.
-pub(crate) fn modify(
-    groups: &mut Vec<Group>,
-    alloc: Global,
-    change: &EntryChange,
-) -> Result<(), StoreError>
+pub(crate) fn modify(groups: &mut Vec<Group>, change: &EntryChange) -> Result<(), Refusal<Cause>>
     requires { AreGroups groups.old.items }
     ensures refused { Refuses result (absence_cause change.now.name (flat groups.old.items)) }
     ensures ok { OnOk result (flat groups.new.items ≡ modified change.now (flat groups.old.items)) }
@@ -80,14 +68,14 @@ pub(crate) fn modify(
     ensures step { IsStep change.now.name.table groups.old.items groups.new.items }
 {
     if let Some(cause) = absence_cause(groups, &change.name) {
-        return Err(StoreError::Refused(cause));
+        return Err(Refusal::For(cause));
     }
-    groups::change(groups, alloc, change)?;
+    groups::change(groups, change)?;
     Ok(())
 }
 
 /// Removes the entry of a DELETE.
-pub(crate) fn delete(groups: &mut Vec<Group>, name: &EntryName) -> Result<(), StoreError>
+pub(crate) fn delete(groups: &mut Vec<Group>, name: &EntryName) -> Result<(), Refusal<Cause>>
     requires { AreGroups groups.old.items }
     ensures refused { Refuses result (absence_cause name.now (flat groups.old.items)) }
     ensures ok { OnOk result (flat groups.new.items ≡ deleted name.now (flat groups.old.items)) }
@@ -97,7 +85,7 @@ pub(crate) fn delete(groups: &mut Vec<Group>, name: &EntryName) -> Result<(), St
     ensures step { IsStep name.now.table groups.old.items groups.new.items }
 {
     if let Some(cause) = absence_cause(groups, name) {
-        return Err(StoreError::Refused(cause));
+        return Err(Refusal::For(cause));
     }
     groups::remove(groups, name)?;
     Ok(())

@@ -2,10 +2,10 @@
 ghost use Rattle.std.specs.Prelude.{◌≡◌, ◌==◌, ◌<◌, ◌+◌, [], ◌∷◌, ◌++◌, ℕ, filter, length, IfOk, IfErr, OnOk, OnErr, IfSome, MatchOption, is_some, true};
 ghost use Rattle.std.specs.Prelude as spec;
 ghost use Rattle.std.specs.List.{AllByRecursion};
-ghost use Rattle.switch_spec.specs.Entries.{inserted, modified, deleted, entry_named};
+ghost use Rattle.plane_spec.specs.Entries.{inserted, modified, deleted, entry_named};
 ghost use Rattle.table_store.specs.Order.{AreOfOneTable, AreOfLowerTables};
 ghost use Rattle.table_store.specs.Groups.{flat, AreGroups, IsAt, IsGap, IsFresh};
-ghost use Rattle.table_store.specs.Drafts.{was, WasGroup, IsTouched, IsStep};
+ghost use Rattle.table_store.specs.Undo.{was, WasGroup, IsTouched, IsStep};
 
 use crate::rows;
 use list_types::NoMemory;
@@ -75,11 +75,7 @@ fn opened(alloc: Global, entry: Entry) -> Result<Group, NoMemory>
 }
 
 /// Gives the entry of that name what the change brings.
-pub(crate) fn change(
-    groups: &mut Vec<Group>,
-    alloc: Global,
-    change: &EntryChange,
-) -> Result<(), NoMemory>
+pub(crate) fn change(groups: &mut Vec<Group>, change: &EntryChange) -> Result<(), NoMemory>
     requires { AreGroups groups.old.items }
     ensures changed { OnOk result (flat groups.new.items ≡ modified change.now (flat groups.old.items)) }
     ensures err { OnErr result (flat groups.new.items ≡ flat groups.old.items) }
@@ -88,7 +84,7 @@ pub(crate) fn change(
 {
     if let Ok(place) = place_of(groups, change.name.table) {
         let group = &mut groups[place];
-        rows::change(&mut group.entries, alloc, change)?;
+        rows::change(&mut group.entries, change)?;
     }
     Ok(())
 }
@@ -107,20 +103,6 @@ pub(crate) fn remove(groups: &mut Vec<Group>, name: &EntryName) -> Result<(), No
         rows::remove(&mut group.entries, name)?;
     }
     Ok(())
-}
-
-/// Removes the entry of that name for good. It takes no memory.
-pub(crate) fn discard(groups: &mut Vec<Group>, name: &EntryName)
-    requires { AreGroups groups.old.items }
-    ensures removed { flat groups.new.items ≡ deleted name.now (flat groups.old.items) }
-    ensures one { is_some (entry_named name.now (flat groups.old.items)) ≡ true → length (flat groups.new.items) + 1 ≡ length (flat groups.old.items) }
-    ensures groups { AreGroups groups.new.items }
-    ensures settled { AllByRecursion (IsTouched []) groups.old.items → AllByRecursion (IsTouched []) groups.new.items }
-{
-    if let Ok(place) = place_of(groups, name.table) {
-        let group = &mut groups[place];
-        rows::discard(&mut group.entries, name);
-    }
 }
 
 /// Keeps the changes of a table. It takes no memory.

@@ -3,15 +3,11 @@
 
 mod causes;
 mod changes;
-mod copies;
-mod draft;
-mod error;
 mod groups;
 pub mod laws;
 mod matching;
 mod rows;
 mod store;
 
-pub use draft::StoreDraft;
-pub use error::StoreError;
+pub use causes::slots_drawn;
 pub use store::{TableStore, Tables};

@@ -1,8 +1,9 @@
 //! What tells an entry from the others, and which entry a key takes.
 ghost use Rattle.std.specs.Prelude.{◌≡◌};
-ghost use Rattle.switch_spec.specs.Entries.{same_test, same_tests, same_name, prefix_bits, passes, all_pass, hits, prefix_length, beats};
+ghost use Rattle.plane_spec.specs.Entries.{same_test, same_tests, same_name, prefix_bits, passes, all_pass, hits, prefix_length, beats};
 
-use p4_types::table::{Entry, EntryName, FieldTest};
+use p4_types::keys::FieldTest;
+use p4_types::table::{Entry, EntryName};
 
 fn same_test(a: FieldTest, b: FieldTest) -> bool
     ensures { result ≡ same_test a b }

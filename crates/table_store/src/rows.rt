@@ -1,16 +1,14 @@
 //! The entries of one table.
-ghost use Rattle.std.specs.Prelude.{◌≡◌, IfOk, OnOk, OnErr};
+ghost use Rattle.std.specs.Prelude.{◌≡◌, OnOk, OnErr};
 ghost use Rattle.std.specs.List.{position};
 ghost use Rattle.std.specs.Option.{option_map};
-ghost use Rattle.switch_spec.specs.Entries.{same_name, entry_named, best, with_change, modified, deleted};
+ghost use Rattle.plane_spec.specs.Entries.{same_name, entry_named, best, with_change, modified, deleted};
 ghost use Rattle.table_store.specs.Groups.{AreInOrder};
 ghost use Rattle.table_store.specs.Scan.{wins};
 
-use crate::copies::{copy_action, copy_name};
 use crate::matching::{beats, hits, same_name};
 use list_types::NoMemory;
 use p4_types::table::{Entry, EntryChange, EntryName};
-use std::alloc::Global;
 use undo_vec::UndoVec;
 
 fn place_of(entries: &[Entry], name: &EntryName) -> Option<usize>
@@ -22,7 +20,7 @@ fn place_of(entries: &[Entry], name: &EntryName) -> Option<usize>
 }
 
 /// The entry of that name.
-#[tactic(auto, unfolding(switch_spec::specs::Entries::entry_named))]
+#[tactic(auto, unfolding(plane_spec::specs::Entries::entry_named))]
 pub(crate) fn find<'a>(entries: &'a [Entry], name: &EntryName) -> Option<&'a Entry>
     ensures { option_map (λ entry. entry.now) result ≡ entry_named name.now entries.now }
 {
@@ -55,25 +53,20 @@ pub(crate) fn best<'a>(table: u32, key: &[u128], entries: &'a [Entry]) -> Option
 }
 
 /// An entry with what a change brings, of the same name, sequence number and slot.
-fn with_change(alloc: Global, entry: &Entry, change: &EntryChange) -> Result<Entry, NoMemory>
-    ensures { IfOk result (λ changed. changed ≡ with_change change.now entry.now) }
+fn with_change(entry: &Entry, change: &EntryChange) -> Entry
+    ensures { result ≡ with_change change.now entry.now }
 {
-    let name = copy_name(alloc, &entry.name)?;
-    Ok(Entry {
-        name,
+    Entry {
+        name: entry.name.copy(),
         seq: entry.seq,
         controller_metadata: change.controller_metadata,
-        action: copy_action(alloc, &change.action)?,
+        action: change.action.copy(),
         slot: entry.slot,
-    })
+    }
 }
 
 /// Gives the entry of that name, of which there is one at most, what the change brings.
-pub(crate) fn change(
-    entries: &mut UndoVec<Entry>,
-    alloc: Global,
-    change: &EntryChange,
-) -> Result<(), NoMemory>
+pub(crate) fn change(entries: &mut UndoVec<Entry>, change: &EntryChange) -> Result<(), NoMemory>
     requires { AreInOrder entries.old.items }
     ensures ok { OnOk result (entries.new.items ≡ modified change.now entries.old.items) }
     ensures err { OnErr result (entries.new.items ≡ entries.old.items) }
@@ -82,7 +75,7 @@ pub(crate) fn change(
     let place = place_of(entries.as_slice(), &change.name);
     if let Some(place) = place {
         let rows = entries.as_slice();
-        let changed = with_change(alloc, &rows[place], change)?;
+        let changed = with_change(&rows[place], change);
         entries.replace(place, changed)?;
     }
     Ok(())
@@ -100,16 +93,4 @@ pub(crate) fn remove(entries: &mut UndoVec<Entry>, name: &EntryName) -> Result<(
         entries.remove(place)?;
     }
     Ok(())
-}
-
-/// Removes the entry of that name, of which there is one at most, for good.
-pub(crate) fn discard(entries: &mut UndoVec<Entry>, name: &EntryName)
-    requires { AreInOrder entries.old.items }
-    ensures items { entries.new.items ≡ deleted name.now entries.old.items }
-    ensures before { entries.old.before ≡ entries.old.items → entries.new.before ≡ entries.new.items }
-{
-    let place = place_of(entries.as_slice(), name);
-    if let Some(place) = place {
-        entries.discard(place);
-    }
 }

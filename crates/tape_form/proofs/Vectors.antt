@@ -1,5 +1,6 @@
 -- Short tapes and what they are answered.
 use Rattle.std.proofs.Common.{◌≡◌, [], ◌∷◌, ◌++◌, Ok, Err, refl}
+use Rattle.p4_types.specs.declared.calls.Method.TheVariants.{Capabilities}
 use Rattle.p4_types.specs.declared.tape.TapeRecord.TheVariants.{Call}
 use Rattle.switch_spec.specs.Tape.{magic, end_bytes}
 use Rattle.switch_spec.specs.TapeReading.{number_at, bytes_at, text_at, call_at, packet_at, end_at, item_at, records_at, tape_at}
@@ -43,7 +44,7 @@ pub byte_behind : outcome (magic ++ (end_bytes ++ 0 ∷ [])) AtEnd ≡ Err (faul
 unfolding number_at bytes_at text_at call_at packet_at end_at item_at records_at tape_at
 byte_behind = refl
 
-pub call : outcome (magic ++ (1 ∷ 0 ∷ 31 ∷ 0 ∷ 0 ∷ 0 ∷ 2 ∷ 6 ∷ 9 ∷ []) ++ end_bytes) AtEnd ≡ Ok (Call 31 6 (9 ∷ []) ∷ [])
+pub call : outcome (magic ++ (1 ∷ 0 ∷ 31 ∷ 0 ∷ 0 ∷ 0 ∷ 2 ∷ 6 ∷ 9 ∷ []) ++ end_bytes) AtEnd ≡ Ok (Call 31 Capabilities (9 ∷ []) ∷ [])
 unfolding number_at bytes_at text_at call_at packet_at end_at item_at records_at tape_at
 call = refl
 

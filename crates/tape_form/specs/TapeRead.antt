@@ -1,9 +1,9 @@
 -- What a tape is that was read from a source, and which answer comes first (this project's profile).
-use Rattle.std.specs.Prelude.{◌≡◌, ℕ, zero, suc, ◌-◌, ◌<◌, ◌≤◌, ◌==◌, if◌then◌else◌, ◌⊎◌, List, length, Option, Result, Ok, Err, All, ⊤}
+use Rattle.std.specs.Prelude.{◌≡◌, ℕ, zero, suc, ◌-◌, ◌<◌, ◌≤◌, ◌==◌, if◌then◌else◌, ◌⊎◌, List, length, Option, Result, Ok, Err, ⊤}
 use Rattle.p4_types.specs.declared.tape.TapeRecord.{TapeRecord}
 use Rattle.sw_edge.specs.Counts.{Rose}
 use Rattle.sw_edge.specs.Told.{Consumes, IsAtEnd}
-use Rattle.switch_spec.specs.Tape.{IsRecord, tape_bytes, IsTape, IsLongestBeginning}
+use Rattle.switch_spec.specs.Tape.{no_lanes, AreRecords, tape_bytes, IsTape, IsLongestBeginning}
 use Rattle.switch_spec.specs.TapeLaws.{IsNoTape, GoesPast}
 use Rattle.switch_spec.specs.TapeReading.{Flaw, Bad, TooMany, tape_at}
 use Rattle.tape_form.specs.declared.limits.TheConstants.{MAX_TAPE, MAX_RECORDS}
@@ -14,7 +14,7 @@ use Rattle.tape_form.specs.declared.fault.Ended.TheVariants.{AtEnd, AtFault, AtL
 
 -- the records of a tape within the limits
 pub record InLimits (records : List TapeRecord) : Type 0 where
-  pub each : All IsRecord records
+  pub each : AreRecords no_lanes records
   pub count : length records ≤ MAX_RECORDS
   pub size : length (tape_bytes records) ≤ MAX_TAPE
 

@@ -1,10 +1,11 @@
 // A tape's records from its bytes.
 ghost use Rattle.std.specs.Prelude.{◌≡◌, ◌<◌, ◌≤◌, ◌^◌, ℕ, IfOk, []};
-ghost use Rattle.switch_spec.specs.TapeReading.{number_at, bytes_at, call_at, packet_at, leave_at, end_at, item_at, text_at, nothing_after, records_at, tape_at};
+ghost use Rattle.switch_spec.specs.TapeReading.{method_of, number_at, bytes_at, call_at, packet_at, leave_at, end_at, item_at, text_at, nothing_after, records_at, tape_at};
 ghost use Rattle.tape_form.specs.Parsed.{Gives, GivesAll};
 ghost use Rattle.tape_form.specs.declared.parse.ReadFault.TheVariants as faults;
 
 use list_types::ByteList;
+use p4_types::calls::Method;
 use p4_types::tape::TapeRecord;
 use std::alloc::{AllocError, AllocFailed, Global};
 
@@ -75,6 +76,20 @@ fn bytes_at(alloc: Global, count: usize, bytes: &[u8]) -> Result<(ByteList, &[u8
     Ok((ByteList::from_vec(Vec::from_slice(alloc, front)?), rest))
 }
 
+/// The method of this number, 1 to 6.
+fn method_of(number: u8) -> Method
+    ensures { result ≡ method_of number }
+{
+    match number {
+        1 => Method::Write,
+        2 => Method::Read,
+        3 => Method::SetForwardingPipelineConfig,
+        4 => Method::GetForwardingPipelineConfig,
+        5 => Method::StreamChannel,
+        _ => Method::Capabilities,
+    }
+}
+
 /// What stands behind the kind of a call.
 #[tactic(auto, unfolding(switch_spec::specs::TapeReading::call_at))]
 fn call_at(alloc: Global, bytes: &[u8]) -> Result<(TapeRecord, &[u8]), ReadFault>
@@ -86,7 +101,7 @@ fn call_at(alloc: Global, bytes: &[u8]) -> Result<(TapeRecord, &[u8]), ReadFault
     let (message, rest) = bytes_at(alloc, size as usize - 1, rest)?;
     let record = TapeRecord::Call {
         lane: lane as u16,
-        method: method as u8,
+        method: method_of(method as u8),
         message,
     };
     Ok((record, rest))

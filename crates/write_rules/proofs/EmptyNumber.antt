@@ -1,7 +1,7 @@
 -- No bytes spell the number 0.
 use Rattle.std.proofs.Common.{◌≡◌, ℕ, List, [], Bool, true, false, cond, refl, ap, ◌∙◌, sym}
 use Rattle.canon_bytes.proofs.Numbers.{num_none}
-use Rattle.switch_spec.specs.UpdateRules.{number, number_in}
+use Rattle.plane_spec.specs.UpdateRules.{number, number_in}
 
 or_zero : (b : Bool) (n : ℕ) → n ≡ 0 → cond b n 0 ≡ 0
 or_zero true n is = is

@@ -1,20 +1,18 @@
 //! The action that an entry gives, against its table and the program.
-ghost use Rattle.std.specs.Prelude.{◌≡◌, ◌==◌, ◌&&◌, ◌^◌, not, nat_lt, length, map, All, IfSome, IfOk, Some};
+ghost use Rattle.std.specs.Prelude.{◌≡◌, ◌==◌, ◌&&◌, ◌^◌, not, nat_lt, length, map, All, Some, ◌≤◌};
 ghost use Rattle.std.specs.Option.{option_map};
 ghost use Rattle.std.specs.List.{list_any, list_all};
 ghost use Rattle.p4_types.specs.declared.info.Param as info_params;
-ghost use Rattle.switch_spec.specs.UpdateRules.{repeats, is_empty, is_allowed, has_action, are_complete, argument_of, arguments_fit, argument_flaw, number_in};
+ghost use Rattle.plane_spec.specs.UpdateRules.{repeats, is_empty, is_allowed, has_action, are_complete, argument_of, arguments_fit, argument_flaw, number_in};
 ghost use Rattle.p4info_model.specs.Valid.{IsWidth};
 ghost use Rattle.write_rules.specs.Widths.{HasParamWidths};
 
 use crate::numbers;
-use list_types::{List, NoMemory};
 use p4_types::code::Code;
 use p4_types::info;
 use p4_types::info::{Scope, Table};
-use p4_types::messages::{Action, Param};
-use p4_types::table::ActionCall;
-use std::alloc::Global;
+use p4_types::keys::Arguments;
+use p4_types::messages::Param;
 
 fn is_allowed(default: bool, scope: Scope) -> bool
     ensures { result ≡ is_allowed default scope }
@@ -156,17 +154,14 @@ pub(crate) fn argument_flaw(action: &info::Action, arguments: &[Param]) -> Optio
 }
 
 /// The arguments in the order of the action's parameters.
-pub(crate) fn arguments(
-    alloc: Global,
-    params: &[info::Param],
-    given: &[Param],
-) -> Result<List<u128>, NoMemory>
-    requires { All (λ param. IsWidth param.bitwidth) params.now }
-    ensures { IfOk result (λ list. list ≡ map (λ param. number_in param.bitwidth (argument_of given.now param.id)) params.now) }
+pub(crate) fn arguments(params: &[info::Param], given: &[Param]) -> Arguments
+    requires widths { All (λ param. IsWidth param.bitwidth) params.now }
+    requires few { length params.now ≤ 8 }
+    ensures { result ≡ map (λ param. number_in param.bitwidth (argument_of given.now param.id)) params.now }
 {
-    let mut list = List::new(alloc);
+    let mut arguments = Arguments::new();
     for param in params {
-        list.push(numbers::number(argument_of(given, param.id), param.bitwidth))?;
+        arguments.push(numbers::number(argument_of(given, param.id), param.bitwidth));
     }
-    Ok(list)
+    arguments
 }

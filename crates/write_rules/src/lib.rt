@@ -9,4 +9,4 @@ mod updates;
 
 pub use numbers::number;
 pub use rules::{is_canonical_match, is_malformed_match, is_too_wide};
-pub use updates::{ResolveError, name_of, resolve};
+pub use updates::{name_of, resolve};

@@ -2,15 +2,15 @@
 ghost use Rattle.std.specs.Prelude.{◌≡◌, ◌==◌, ◌&&◌, ◌<◌, ◌≤◌, ◌-◌, ◌%◌, ◌^◌, not, IfSome, map};
 ghost use Rattle.std.specs.Option.{option_map};
 ghost use Rattle.std.specs.List.{list_any, list_all};
-ghost use Rattle.switch_spec.specs.Objects.{field_of};
-ghost use Rattle.switch_spec.specs.UpdateRules.{is_prefix_length, all_zero, is_formed, is_formed_in, matched, fits, fits_in, natural, is_canonical, is_canonical_in, repeats, asked_of, test_by, is_exact};
+ghost use Rattle.plane_spec.specs.Objects.{field_of};
+ghost use Rattle.plane_spec.specs.UpdateRules.{is_prefix_length, all_zero, is_formed, is_formed_in, matched, fits, fits_in, natural, is_canonical, is_canonical_in, repeats, asked_of, test_by, is_exact};
 ghost use Rattle.p4info_model.specs.Valid.{IsWidth};
 ghost use Rattle.write_rules.specs.Widths.{HasWidths};
 
 use crate::numbers;
 use p4_types::info::{MatchField, MatchKind, Table};
+use p4_types::keys::FieldTest;
 use p4_types::messages::{FieldMatch, FieldMatchKind};
-use p4_types::table::FieldTest;
 
 /// The field of the table's key with this id.
 pub(crate) fn field(table: &Table, id: u32) -> Option<&MatchField>

@@ -1,6 +1,6 @@
 //! Byte strings as numbers of a width.
 ghost use Rattle.std.specs.Prelude.{◌≡◌, ◌≤◌, ◌-◌, ◌^◌, nat_lt};
-ghost use Rattle.switch_spec.specs.UpdateRules.{number, number_in};
+ghost use Rattle.plane_spec.specs.UpdateRules.{number, number_in};
 
 use canon_bytes::ByteFault;
 

@@ -2,7 +2,7 @@
 ghost use Rattle.std.specs.Prelude.{◌≡◌, ◌==◌, ◌&&◌, ◌||◌, not, Some, None};
 ghost use Rattle.std.specs.Option.{option_map};
 ghost use Rattle.std.specs.List.{list_any};
-ghost use Rattle.switch_spec.specs.UpdateRules.{update_kind, brings, is_unserved, is_foreign, is_fixed, is_malformed, is_malformed_match, names_zero, is_too_wide, has_priorities, has_right_priority, is_canonical_match, is_inconsistent};
+ghost use Rattle.plane_spec.specs.UpdateRules.{update_kind, brings, is_unserved, is_foreign, is_fixed, is_malformed, is_malformed_match, names_zero, is_too_wide, has_priorities, has_right_priority, is_canonical_match, is_inconsistent};
 ghost use Rattle.write_rules.specs.Widths.{HasWidths};
 
 use crate::matches;

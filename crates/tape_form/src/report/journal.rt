@@ -3,22 +3,18 @@ ghost use Rattle.std.specs.Prelude.{◌≡◌, ◌<◌, ◌+◌, ◌-◌, ◌^�
 ghost use Rattle.std.specs.List.{flat_map};
 ghost use Rattle.switch_spec.specs.ReportText.{notice_line, reply_line, step_line, step_lines, entry_lines, journal_lines};
 
-use crate::report::words::{kind_name, push_hex, push_list};
+use crate::report::words::{kind_name, push_list, push_message};
 use p4_types::calls::Notice;
 use p4_types::journal::{Entry, Step};
-use p4v1_wire::write_message;
 use std::alloc::{AllocError, Global};
 
 /// Adds the line of a notice.
 fn push_notice(alloc: Global, out: &mut String, notice: &Notice) -> Result<(), AllocError>
     ensures { OnOk result (string_bytes out.new ≡ string_bytes out.old ++ notice_line notice.now) }
 {
-    let Ok(message) = write_message(alloc, &notice.message) else {
-        return Err(AllocError);
-    };
     let lane = notice.lane;
     write!(out, "notice {lane} ")?;
-    push_hex(alloc, out, message.as_slice())?;
+    push_message(alloc, out, &notice.message)?;
     out.push_str("\n")
 }
 
@@ -37,7 +33,7 @@ fn push_step(
     out: &mut String,
     number: u128,
     lane: u16,
-    call: u32,
+    call: u64,
     step: Step,
 ) -> Result<(), AllocError>
     ensures { OnOk result (string_bytes out.new ≡ string_bytes out.old ++ step_line number lane call step) }
@@ -52,7 +48,7 @@ fn push_steps(
     out: &mut String,
     before: u128,
     lane: u16,
-    call: u32,
+    call: u64,
     steps: &[Step],
 ) -> Result<u128, AllocError>
     requires { before < 2 ^ 128 - 2 ^ 64 }

@@ -1,12 +1,15 @@
 // The words of a report's lines.
 ghost use Rattle.std.specs.Prelude.{◌≡◌, ◌++◌, ℕ, List, OnOk, string_bytes};
 ghost use Rattle.switch_spec.specs.Text.{hex_word, list_word, option_word};
-ghost use Rattle.switch_spec.specs.ReportText.{kind_word, who_word, fate_word, tagged_word, cpu_word, mark_word};
+ghost use Rattle.switch_spec.specs.ReportText.{kind_word, who_word, reason_number, fate_word, output_word, cpu_word, sample_word, mark_word};
+ghost use Rattle.p4v1_wire.specs.Rows.{fields_by};
+ghost use Rattle.wire_fields.specs.Spelling.{spelling};
 
 use list_types::ByteList;
 use p4_types::journal::StepKind;
-use p4_types::records::HitMark;
+use p4_types::records::{CpuMessage, DropReason, Fate, HitMark, Output, Sample};
 use p4_types::tape::Who;
+use p4v1_wire::{Writable, write_message};
 use std::alloc::{AllocError, Global};
 
 /// What a report shows as a word.
@@ -26,35 +29,35 @@ impl AsWord for ByteList {
     }
 }
 
-impl AsWord for (u16, ByteList) {
-    ghost word = { tagged_word };
+impl AsWord for Output {
+    ghost word = { output_word };
 
     fn push_word(&self, alloc: Global, out: &mut String) -> Result<(), AllocError> {
-        let number = self.0;
-        write!(out, "{number}:")?;
-        push_hex(alloc, out, self.1.as_slice())
+        let port = self.port;
+        write!(out, "{port}:")?;
+        push_hex(alloc, out, self.bytes.as_slice())
     }
 }
 
-impl AsWord for (u32, ByteList) {
-    ghost word = { tagged_word };
-
-    fn push_word(&self, alloc: Global, out: &mut String) -> Result<(), AllocError> {
-        let number = self.0;
-        write!(out, "{number}:")?;
-        push_hex(alloc, out, self.1.as_slice())
-    }
-}
-
-impl AsWord for (Option<u16>, ByteList) {
+impl AsWord for CpuMessage {
     ghost word = { cpu_word };
 
     fn push_word(&self, alloc: Global, out: &mut String) -> Result<(), AllocError> {
-        match self.0 {
+        match self.lane {
             Some(lane) => write!(out, "{lane}:")?,
             None => out.push_str("-:")?,
         }
-        push_hex(alloc, out, self.1.as_slice())
+        push_message(alloc, out, &self.packet)
+    }
+}
+
+impl AsWord for Sample {
+    ghost word = { sample_word };
+
+    fn push_word(&self, alloc: Global, out: &mut String) -> Result<(), AllocError> {
+        let digest = self.digest;
+        write!(out, "{digest}:")?;
+        push_message(alloc, out, &self.content)
     }
 }
 
@@ -78,6 +81,20 @@ pub(crate) fn push_hex(alloc: Global, out: &mut String, bytes: &[u8]) -> Result<
     }
     let digits = hex::encode(alloc, bytes)?;
     out.push_str(digits.as_str())
+}
+
+/// Adds the canonical bytes of a message in hex, or a dot for none.
+pub(crate) fn push_message<M: Writable>(
+    alloc: Global,
+    out: &mut String,
+    message: &M,
+) -> Result<(), AllocError>
+    ensures { OnOk result (string_bytes out.new ≡ string_bytes out.old ++ hex_word (spelling (fields_by M.rows message.now))) }
+{
+    let Ok(bytes) = write_message(alloc, message) else {
+        return Err(AllocError);
+    };
+    push_hex(alloc, out, bytes.as_slice())
 }
 
 /// Adds the items' words, joined by commas, or a dash for none.
@@ -137,13 +154,22 @@ pub(crate) fn push_who(out: &mut String, who: Who) -> Result<(), AllocError>
     }
 }
 
+/// The number of a reason for which a packet was dropped.
+fn reason_number(reason: DropReason) -> u8
+    ensures { result ≡ reason_number reason }
+{
+    reason as u8
+}
+
 /// Adds the word of a packet's fate.
-pub(crate) fn push_fate(out: &mut String, fate: u8) -> Result<(), AllocError>
+pub(crate) fn push_fate(out: &mut String, fate: Fate) -> Result<(), AllocError>
     ensures { OnOk result (string_bytes out.new ≡ string_bytes out.old ++ fate_word fate) }
 {
-    if fate == 0 {
-        out.push_str("sent")
-    } else {
-        write!(out, "drop{fate}")
+    match fate {
+        Fate::Sent => out.push_str("sent"),
+        Fate::Dropped(reason) => {
+            let number = reason_number(reason);
+            write!(out, "drop{number}")
+        }
     }
 }

@@ -1,6 +1,7 @@
-use Rattle.std.proofs.Common.{◌*◌, ◌%◌, ◌-◌, ◌/◌, ◌^◌, sym, ◌∙◌, arith}
+use Rattle.std.proofs.Common.{◌≡◌, ℕ, ◌*◌, ◌%◌, ◌-◌, ◌/◌, ◌^◌, sym, ap, subst, ◌∙◌, arith}
 use Rattle.std.specs.Int.Bits.{bit_and}
-use Rattle.pkt_bits.proofs.Pieces.{put_turn, part_is, field_start, same_start, value_start}
+use Rattle.pkt_bits.proofs.Pieces.{put_turn, part_is, field_start, same_start, value_start, put_spliced}
+use Rattle.pkt_bits.specs.Field.{field, SameOutside}
 use Rattle.pkt_bits.proofs.fields.put.Goals as goal
 
 pub loop-left-init : goal.loop-left-init
@@ -28,3 +29,13 @@ loop-left-preserved c =
       so_far = turn.0;
       others = turn.1;
     }
+
+pub returns-clause-spliced : goal.returns-clause-spliced
+returns-clause-spliced c =
+    let l = c.loop-left in
+    let done : l.left ≡ 0 = omega arith in
+    let whole : c.args.width - l.left ≡ c.args.width = omega arith in
+    let value : c.args.value / 2 ^ l.left ≡ c.args.value = ap (λ k. c.args.value / 2 ^ k) done ∙ omega arith in
+    let number : field l.bytes c.args.bit c.args.width ≡ c.args.value = sym (ap (field l.bytes c.args.bit) whole) ∙ l.invariant.so_far ∙ value in
+    let Same : ℕ → Type 0 = λ n. SameOutside c.args.bytes.now l.bytes c.args.bit n in
+    put_spliced c.args.bytes.now l.bytes c.args.bit c.args.width c.args.value (omega (arith, c.requires.in_range)) number (subst Same whole l.invariant.others)

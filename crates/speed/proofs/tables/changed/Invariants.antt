@@ -1,5 +1,5 @@
-use Rattle.std.proofs.Common.{◌<◌, ◌+◌, All}
+use Rattle.std.proofs.Common.{◌≡◌}
 use Rattle.speed.proofs.tables.changed.Given as goal
 
 abbrev pub invariant-loop : goal.invariant-loop
-invariant-loop l = All (λ entry. entry.seq < 1 + l.routes) l.store
+invariant-loop l = (l.store.entries ≡ l.initial.store.entries) × (l.store.before ≡ l.initial.store.before)

@@ -1,5 +1,5 @@
-use Rattle.std.proofs.Common.{◌<◌, ◌+◌, All}
+use Rattle.std.proofs.Common.{◌≡◌, ◌<◌, ◌+◌, All}
 use Rattle.speed.proofs.tables.filled.Given as goal
 
 abbrev pub invariant-loop-number : goal.invariant-loop-number
-invariant-loop-number l = All (λ entry. entry.seq < 1 + l.number) l.store
+invariant-loop-number l = All (λ entry. entry.seq < 1 + l.number) l.store.entries × (l.store.before ≡ l.store.entries)

@@ -1,6 +1,6 @@
 use Rattle.std.proofs.Common.{List, ap, ◌∙◌}
 use Rattle.p4_types.specs.declared.table.Entry.{Entry}
-use Rattle.switch_spec.specs.Entries.{entry_named}
+use Rattle.plane_spec.specs.Entries.{entry_named}
 use Rattle.table_store.specs.Groups.{flat}
 use Rattle.table_store.proofs.OfTable.{named_of_table}
 use Rattle.table_store.proofs.causes.find.Goals as goal

@@ -1,7 +1,7 @@
 use Rattle.std.proofs.Common.{refl}
 use Rattle.table_store.proofs.Lists.{on_err}
 use Rattle.table_store.proofs.ByTable.{order_at, flat_modified, groups_modified, flat_same, groups_same, none_modified}
-use Rattle.table_store.proofs.Drafts.{step_none, step_set}
+use Rattle.table_store.proofs.Undo.{step_none, step_set}
 use Rattle.table_store.proofs.groups.change.Goals as goal
 
 pub change-requires : goal.change-requires

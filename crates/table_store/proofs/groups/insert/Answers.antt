@@ -1,10 +1,10 @@
 use Rattle.std.proofs.Common.{List, refl, sym, ap, subst, ◌∙◌}
 use Rattle.table_store.specs.declared.groups.Group.{Group}
 use Rattle.table_store.specs.Groups.{flat, AreGroups}
-use Rattle.table_store.specs.Drafts.{IsStep}
+use Rattle.table_store.specs.Undo.{IsStep}
 use Rattle.table_store.proofs.Lists.{on_err}
 use Rattle.table_store.proofs.ByTable.{flat_inserted, groups_inserted, flat_opened, groups_opened, flat_same, groups_same}
-use Rattle.table_store.proofs.Drafts.{step_none, step_set, step_insert}
+use Rattle.table_store.proofs.Undo.{step_none, step_set, step_insert}
 use Rattle.table_store.proofs.groups.insert.Goals as goal
 
 pub returns-in_err-push-in-Ok-clause-err : goal.returns-in_err-push-in-Ok-clause-err

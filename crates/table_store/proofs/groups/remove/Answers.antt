@@ -1,7 +1,7 @@
 use Rattle.std.proofs.Common.{refl}
 use Rattle.table_store.proofs.Lists.{on_err}
 use Rattle.table_store.proofs.ByTable.{order_at, flat_deleted, groups_deleted, none_deleted, length_deleted_at, none_named, flat_same, groups_same}
-use Rattle.table_store.proofs.Drafts.{step_none, step_set}
+use Rattle.table_store.proofs.Undo.{step_none, step_set}
 use Rattle.table_store.proofs.groups.remove.Goals as goal
 
 pub remove-requires : goal.remove-requires

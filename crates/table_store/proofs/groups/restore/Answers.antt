@@ -1,5 +1,5 @@
 use Rattle.std.proofs.Common.{refl, ◌∙◌, sym}
-use Rattle.table_store.proofs.Drafts.{less_set, less_gap, restored, restored_was, restored_kept}
+use Rattle.table_store.proofs.Undo.{less_set, less_gap, restored, restored_was, restored_kept}
 use Rattle.table_store.proofs.groups.restore.Goals as goal
 
 pub returns-in-Ok-clause-before : goal.returns-in-Ok-clause-before

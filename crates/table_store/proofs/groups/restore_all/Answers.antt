@@ -2,8 +2,8 @@ use Rattle.std.proofs.Common.{◌≡◌, ℕ, List, [], drop, subst, sym, ◌∙
 use Rattle.std.specs.List.{AllByRecursion}
 use Rattle.std.proofs.lemmas.List.{drop_more}
 use Rattle.std.proofs.Math.ListN.{drop_of_length-le}
-use Rattle.table_store.specs.Drafts.{IsTouched}
-use Rattle.table_store.proofs.Drafts.{settled_was}
+use Rattle.table_store.specs.Undo.{IsTouched}
+use Rattle.table_store.proofs.Undo.{settled_was}
 use Rattle.table_store.proofs.groups.restore_all.Goals as goal
 
 pub loop-table-preserved : goal.loop-table-preserved

@@ -1,7 +1,7 @@
 use Rattle.std.proofs.Common.{◌≡◌, drop}
 use Rattle.std.specs.List.{AllByRecursion}
 use Rattle.table_store.specs.Groups.{AreGroups}
-use Rattle.table_store.specs.Drafts.{was, WasGroup, IsTouched}
+use Rattle.table_store.specs.Undo.{was, WasGroup, IsTouched}
 use Rattle.table_store.proofs.groups.restore_all.Given as goal
 
 abbrev pub invariant-loop-table : goal.invariant-loop-table

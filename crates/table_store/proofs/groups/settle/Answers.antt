@@ -1,6 +1,6 @@
 use Rattle.std.proofs.Common.{refl, ◌∙◌, sym}
 use Rattle.table_store.proofs.ByTable.{flat_same, groups_same}
-use Rattle.table_store.proofs.Drafts.{less_set, less_gap}
+use Rattle.table_store.proofs.Undo.{less_set, less_gap}
 use Rattle.table_store.proofs.groups.settle.Goals as goal
 
 pub returns-in-Ok-clause-entries : goal.returns-in-Ok-clause-entries

@@ -1,7 +1,7 @@
 use Rattle.std.proofs.Common.{ℕ, List, subst, ◌∙◌}
 use Rattle.std.specs.List.{AllByRecursion}
 use Rattle.std.proofs.lemmas.List.{drop_more}
-use Rattle.table_store.specs.Drafts.{IsTouched}
+use Rattle.table_store.specs.Undo.{IsTouched}
 use Rattle.table_store.proofs.groups.settle_all.Goals as goal
 
 pub loop-table-preserved : goal.loop-table-preserved

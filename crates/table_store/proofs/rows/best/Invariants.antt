@@ -1,6 +1,6 @@
 use Rattle.std.proofs.Common.{◌≡◌, take}
 use Rattle.std.specs.Option.{option_map}
-use Rattle.switch_spec.specs.Entries.{best}
+use Rattle.plane_spec.specs.Entries.{best}
 use Rattle.table_store.proofs.rows.best.Given as goal
 
 abbrev pub invariant-loop-entry : goal.invariant-loop-entry

@@ -1,7 +1,7 @@
 use Rattle.std.proofs.Common.{List, sym, ap, ◌∙◌}
 use Rattle.std.specs.List.{position}
 use Rattle.p4_types.specs.declared.table.Entry.{Entry}
-use Rattle.switch_spec.specs.Entries.{same_name}
+use Rattle.plane_spec.specs.Entries.{same_name}
 use Rattle.table_store.proofs.OneTable.{removed_at, removed_nowhere}
 use Rattle.table_store.proofs.rows.remove.Goals as goal
 

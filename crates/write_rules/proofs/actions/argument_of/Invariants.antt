@@ -1,5 +1,5 @@
 use Rattle.std.proofs.Common.{◌≡◌, drop}
-use Rattle.switch_spec.specs.UpdateRules.{argument_of}
+use Rattle.plane_spec.specs.UpdateRules.{argument_of}
 use Rattle.write_rules.proofs.actions.argument_of.Given as goal
 
 abbrev pub invariant-loop-argument : goal.invariant-loop-argument

@@ -1,5 +1,5 @@
 use Rattle.std.proofs.Common.{◌≡◌, drop}
-use Rattle.switch_spec.specs.UpdateRules.{arguments_fit}
+use Rattle.plane_spec.specs.UpdateRules.{arguments_fit}
 use Rattle.write_rules.proofs.actions.arguments_fit.Given as goal
 
 abbrev pub invariant-loop-param : goal.invariant-loop-param

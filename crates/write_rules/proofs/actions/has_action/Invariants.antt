@@ -1,6 +1,6 @@
 use Rattle.std.proofs.Common.{◌≡◌, ◌==◌, ◌&&◌, drop}
 use Rattle.std.specs.List.{list_any}
-use Rattle.switch_spec.specs.UpdateRules.{is_allowed, has_action}
+use Rattle.plane_spec.specs.UpdateRules.{is_allowed, has_action}
 use Rattle.write_rules.proofs.actions.has_action.Given as goal
 
 abbrev pub invariant-loop-reference : goal.invariant-loop-reference

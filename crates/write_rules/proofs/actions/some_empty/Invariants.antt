@@ -1,6 +1,6 @@
 use Rattle.std.proofs.Common.{◌≡◌, drop}
 use Rattle.std.specs.List.{list_any}
-use Rattle.switch_spec.specs.UpdateRules.{is_empty}
+use Rattle.plane_spec.specs.UpdateRules.{is_empty}
 use Rattle.write_rules.proofs.actions.some_empty.Given as goal
 
 abbrev pub invariant-loop-argument : goal.invariant-loop-argument

@@ -1,6 +1,6 @@
 use Rattle.std.proofs.Common.{◌≡◌, drop}
 use Rattle.std.specs.List.{list_all}
-use Rattle.switch_spec.specs.UpdateRules.{matched, is_canonical_in}
+use Rattle.plane_spec.specs.UpdateRules.{matched, is_canonical_in}
 use Rattle.write_rules.proofs.matches.all_canonical.Given as goal
 
 abbrev pub invariant-loop-asked : goal.invariant-loop-asked

@@ -1,5 +1,5 @@
 use Rattle.std.proofs.Common.{◌≡◌, drop}
-use Rattle.switch_spec.specs.UpdateRules.{all_zero}
+use Rattle.plane_spec.specs.UpdateRules.{all_zero}
 use Rattle.write_rules.proofs.matches.all_zero.Given as goal
 
 abbrev pub invariant-loop-byte : goal.invariant-loop-byte

@@ -1,5 +1,5 @@
 use Rattle.std.proofs.Common.{◌≡◌, drop}
-use Rattle.switch_spec.specs.UpdateRules.{asked_of}
+use Rattle.plane_spec.specs.UpdateRules.{asked_of}
 use Rattle.write_rules.proofs.matches.asked_of.Given as goal
 
 abbrev pub invariant-loop-asked : goal.invariant-loop-asked

@@ -1,5 +1,5 @@
 use Rattle.std.proofs.Common.{◌≡◌, ◌==◌, drop, find}
-use Rattle.switch_spec.specs.Objects.{field_of}
+use Rattle.plane_spec.specs.Objects.{field_of}
 use Rattle.write_rules.proofs.matches.field.Given as goal
 
 abbrev pub invariant-loop-field : goal.invariant-loop-field

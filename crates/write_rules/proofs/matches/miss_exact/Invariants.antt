@@ -1,6 +1,6 @@
 use Rattle.std.proofs.Common.{◌≡◌, ◌==◌, ◌&&◌, not, drop, map}
 use Rattle.std.specs.List.{list_any}
-use Rattle.switch_spec.specs.UpdateRules.{is_exact}
+use Rattle.plane_spec.specs.UpdateRules.{is_exact}
 use Rattle.write_rules.proofs.matches.miss_exact.Given as goal
 
 abbrev pub invariant-loop-field : goal.invariant-loop-field

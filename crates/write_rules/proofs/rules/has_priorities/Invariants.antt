@@ -1,6 +1,6 @@
 use Rattle.std.proofs.Common.{◌≡◌, ◌||◌, drop}
 use Rattle.std.specs.List.{list_any}
-use Rattle.switch_spec.specs.UpdateRules.{is_ternary, is_range, is_optional, has_priorities}
+use Rattle.plane_spec.specs.UpdateRules.{is_ternary, is_range, is_optional, has_priorities}
 use Rattle.write_rules.proofs.rules.has_priorities.Given as goal
 
 abbrev pub invariant-loop-field : goal.invariant-loop-field

@@ -8,6 +8,7 @@ use Rattle.digest_lists.specs.State.{DigestState}
 use Rattle.digest_lists.specs.Sending.{sent_by_sample, after_sample}
 use Rattle.digest_lists.specs.Fold.{take_sample, sent_at_sample}
 use Rattle.digest_lists.proofs.Places.{of_id, changed_by, found_by, change_first_none, find_none}
+use Rattle.digest_lists.proofs.Soundness.{sound_at, same_after_sample, few_after_sample}
 use Rattle.digest_lists.proofs.lists.Lists.sample.Goals as goal
 
 -- what the digest's own call sends is what the digests send
@@ -41,3 +42,12 @@ returns-in-None-clause-sent c =
 pub returns-in-None-clause-state : goal.returns-in-None-clause-state
 returns-in-None-clause-state c =
     sym (change_first_none (of_id c.args.digest) (λ digest. after_sample digest c.args.sample c.args.now) c.args.self.now (ap (λ l. position (of_id c.args.digest) l) (sym c.self.view_is ∙ sym c.deref.ensures.value) ∙ sym c.in-None.ensures))
+
+pub invariant_of-self : goal.invariant_of-self
+invariant_of-self c = (
+  c.self.invariant.0,
+  c.self.invariant.1,
+  sound_at c.sample.result (of_id c.args.digest) (λ digest. after_sample digest c.args.sample c.args.now) (same_after_sample c.args.sample c.args.now) (few_after_sample c.args.sample c.args.now)
+      c.self.inside.digests.items c.in-Some.place c.index_mut.result.now c.sample.new.self (ap (λ l. position (of_id c.args.digest) l) (sym c.deref.ensures.value) ∙ sym c.in-Some.ensures) c.index_mut.ensures.value
+      c.sample.ensures.state c.sample.ensures.kept c.self.invariant.2,
+)

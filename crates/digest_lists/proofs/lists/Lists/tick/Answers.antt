@@ -5,6 +5,9 @@ use Rattle.digest_lists.specs.State.{DigestState}
 use Rattle.digest_lists.specs.Sending.{is_due, list_of, after_sending}
 use Rattle.digest_lists.specs.Fold.{send_due}
 use Rattle.digest_lists.proofs.Places.{changed_by, found_by, change_first_none, find_none}
+use Rattle.std.proofs.Common.{refl, ◌++◌, [], ◌∷◌}
+use Rattle.digest_lists.specs.Sending.{sent_list}
+use Rattle.digest_lists.proofs.Soundness.{sound_at, few_newest}
 use Rattle.digest_lists.proofs.lists.Lists.tick.Goals as goal
 
 pub returns-in_ok-list-in-Some-clause-sent : goal.returns-in_ok-list-in-Some-clause-sent
@@ -24,3 +27,12 @@ returns-in-None-clause-sent c =
 pub returns-in-None-clause-state : goal.returns-in-None-clause-state
 returns-in-None-clause-state c =
     sym (change_first_none (λ digest. is_due digest c.args.now) (λ digest. after_sending digest c.args.now) c.args.self.now (ap (position (λ digest. is_due digest c.args.now)) (sym c.self.view_is ∙ sym c.deref.ensures.value) ∙ sym c.in-None.ensures))
+
+pub invariant_of-self-in-Some : goal.invariant_of-self-in-Some
+invariant_of-self-in-Some c = (
+  c.self.invariant.0,
+  c.self.invariant.1,
+  sound_at c.send.result (λ digest. is_due digest c.args.now) (λ digest. after_sending digest c.args.now) (λ digest. refl) (λ digest few. few_newest (digest.waiting ++ sent_list digest c.args.now ∷ []))
+      c.self.inside.digests.items c.in-Some.place c.index_mut.result.now c.send.new.self (ap (position (λ digest. is_due digest c.args.now)) (sym c.deref.ensures.value) ∙ sym c.in-Some.ensures) c.index_mut.ensures.value
+      c.send.ensures.state c.send.ensures.kept c.self.invariant.2,
+)

@@ -7,9 +7,9 @@ use Rattle.p4switch_run.proofs.session.Session.call.Goals as goal
 pub returns-clause-plays : goal.returns-clause-plays
 returns-clause-plays c =
     turn_plays c.enter.result c.args.lane (Asks c.args.method c.args.message.now) c.reply-reply.result c.args.self.now c.reply-reply.new.self c.enter.new.self c.len-before.result
-    c.requires.session c.requires.lane c.reply-reply.ensures (c.len-before.ensures ∙ ap (λ (s : State). length s.events) c.self.view_is) c.enter.ensures
+    c.requires.session c.requires.room c.requires.lane c.reply-reply.ensures (c.len-before.ensures ∙ ap (λ (s : State). length s.events) c.self.view_is) c.enter.ensures
 
 pub returns-clause-session : goal.returns-clause-session
 returns-clause-session c =
     turn_session c.enter.result c.args.lane (Asks c.args.method c.args.message.now) c.reply-reply.result c.args.self.now c.reply-reply.new.self c.enter.new.self c.len-before.result
-    c.requires.session c.requires.lane c.reply-reply.ensures (c.len-before.ensures ∙ ap (λ (s : State). length s.events) c.self.view_is) c.enter.ensures
+    c.requires.session c.requires.room c.requires.lane c.reply-reply.ensures (c.len-before.ensures ∙ ap (λ (s : State). length s.events) c.self.view_is) c.enter.ensures

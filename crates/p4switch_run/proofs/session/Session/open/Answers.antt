@@ -2,7 +2,7 @@ use Rattle.std.proofs.Common.{ℕ, ◌==◌, length, slice_index, ap, ◌∙◌,
 use Rattle.std.specs.Prelude.{count_by}
 use Rattle.std.proofs.lemmas.List.{length-replicate}
 use Rattle.p4_types.specs.declared.journal.Entry.{Entry}
-use Rattle.switch_spec.specs.Control.{opened, applied}
+use Rattle.plane_spec.specs.Planes.{opened, applied}
 use Rattle.p4switch_run.proofs.TallyLemmas.{tallies_none}
 use Rattle.p4switch_run.proofs.session.Session.open.Goals as goal
 

@@ -1,21 +1,11 @@
-use Rattle.std.proofs.Common.{List, is_some, sym, ap, ◌∙◌, arith}
-use Rattle.p4_types.specs.declared.table.Entry.{Entry}
-use Rattle.switch_spec.specs.Entries.{entry_named}
-use Rattle.table_store.proofs.OfTable.{is_named}
+use Rattle.std.proofs.Common.{arith}
+use Rattle.table_store.proofs.Undo.{store_after, counted_same}
 use Rattle.table_store.proofs.store.TableStore.delete.Goals as goal
 
-pub overflow_sub-self : goal.overflow_sub-self
-overflow_sub-self c =
-    let named = is_named c.args.name.now c.args.self.now (sym c.absence_cause.ensures ∙ c.in_default.is) in
-    let one = c.discard.ensures.one (ap (λ (xs : List Entry). is_some (entry_named c.args.name.now xs)) c.self.view_is ∙ named) in
-    omega (arith, one, c.self.invariant.entries)
+pub invariant_of-self-in_err-delete : goal.invariant_of-self-in_err-delete
+invariant_of-self-in_err-delete c = store_after _ _ _ _ _ _ _ _ c.self.invariant c.delete.ensures.step c.delete.ensures.groups c.in_ok-touch.ensures.ok
+    (counted_same _ _ _ c.self.invariant.entries c.in_err-delete.ensures.err)
 
-pub invariant_of-self : goal.invariant_of-self
-invariant_of-self c =
-    let named = is_named c.args.name.now c.args.self.now (sym c.absence_cause.ensures ∙ c.in_default.is) in
-    let one = c.discard.ensures.one (ap (λ (xs : List Entry). is_some (entry_named c.args.name.now xs)) c.self.view_is ∙ named) in
-    record {
-      groups = c.discard.ensures.groups;
-      entries = omega (arith, one, c.self.invariant.entries);
-      settled = c.discard.ensures.settled c.self.invariant.settled;
-    }
+pub invariant_of-self-2 : goal.invariant_of-self-2
+invariant_of-self-2 c = store_after _ _ _ _ _ _ _ _ c.self.invariant c.delete.ensures.step c.delete.ensures.groups c.in_ok-touch.ensures.ok
+    (omega (arith, c.in_ok-delete.ensures.one, c.self.invariant.entries))

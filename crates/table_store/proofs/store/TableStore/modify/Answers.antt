@@ -1,11 +1,6 @@
-use Rattle.std.proofs.Common.{◌∙◌}
-use Rattle.table_store.proofs.Drafts.{store_after, counted_same, counted_changed}
+use Rattle.table_store.proofs.Undo.{store_after, counted_by}
 use Rattle.table_store.proofs.store.TableStore.modify.Goals as goal
 
-pub invariant_of-self : goal.invariant_of-self
-invariant_of-self c = store_after _ _ _ _ _ c.self.invariant.settled c.modify-made.ensures.step c.settle.ensures.groups c.settle.ensures.touched
-    (counted_same _ _ _ c.self.invariant.entries (c.settle.ensures.entries ∙ c.in_err-made.ensures.err))
-
 pub invariant_of-self-2 : goal.invariant_of-self-2
-invariant_of-self-2 c = store_after _ _ _ _ _ c.self.invariant.settled c.modify-made.ensures.step c.settle.ensures.groups c.settle.ensures.touched
-    (counted_changed _ c.args.change.now _ _ c.self.invariant.entries (c.settle.ensures.entries ∙ c.in_ok-made.ensures.ok))
+invariant_of-self-2 c = store_after _ _ _ _ _ _ _ _ c.self.invariant c.modify.ensures.step c.modify.ensures.groups c.in_ok-touch.ensures.ok
+    (counted_by c.modify.result _ c.args.change.now _ _ c.self.invariant.entries c.modify.ensures.ok c.modify.ensures.err)

@@ -1,4 +1,0 @@
-pub mod Drafting
-pub mod Numbering
-pub mod Rises
-pub mod Tables

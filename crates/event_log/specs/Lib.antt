@@ -1,0 +1,4 @@
+pub mod Legal
+pub mod Lists
+pub mod Ruling
+pub mod Laws

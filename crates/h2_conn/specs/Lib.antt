@@ -1,0 +1,5 @@
+pub mod Blocks
+pub mod Frames
+pub mod Bytes
+pub mod Sends
+pub mod History

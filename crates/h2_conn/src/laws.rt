@@ -1,0 +1,18 @@
+//! Laws of a connection, each the contract of a function that does nothing.
+ghost use Rattle.h2_conn.specs.Bytes.{AnyCut};
+ghost use Rattle.h2_conn.specs.History.{AnyPieces, WholeFrame};
+
+/// Cutting bytes in two changes nothing.
+pub fn any_cut()
+    ensures { AnyCut }
+{}
+
+/// How bytes between two sends are cut changes nothing, whatever happened before and happens after.
+pub fn any_pieces()
+    ensures { AnyPieces }
+{}
+
+/// The bytes of a whole frame do what the frame does.
+pub fn whole_frame()
+    ensures { WholeFrame }
+{}

@@ -1,0 +1,173 @@
+//! What waits for all controllers.
+ghost use Rattle.std.specs.Prelude.{◌≡◌, ◌⊎◌, IfOk, All, replicate};
+ghost use Rattle.std.specs.Option.{option_copied};
+ghost use Rattle.digest_lists.specs.Fold.{HasRoom, set_digest, acknowledge};
+ghost use Rattle.mail_room.specs.Boxes.{empty_box};
+ghost use Rattle.mail_room.specs.AllMail.{IsLane, IsLaneIfAny, no_mail, with_box, with_lists, missed, notified, sent_to, packet_in, list_to, sampled, ticked, Gives};
+
+use crate::mailbox::Mailbox;
+use crate::next::Next;
+use digest_lists::Lists;
+use list_types::NoMemory;
+use p4_types::messages::{DigestConfig, DigestList, P4Data, PacketIn, StreamMessageResponse};
+use std::alloc::Global;
+use std::marker::Model;
+
+/// So many lanes may have mail, numbered from 0.
+pub const LANE_LIMIT: usize = 32;
+
+/// What waits for the controller of each lane, and the digests that are set. With a notice waits a T, which is what its call has told.
+#[derive(Drop)]
+pub struct Mail<T: Drop> {
+    boxes: Vec<Mailbox<T>>,
+    lists: Lists,
+    unstored: u64,
+}
+
+impl<T: Drop> Model for Mail<T> {
+    ghost use Rattle.std.specs.Prelude.{◌≡◌, vec_len};
+    ghost use Rattle.mail_room.specs.declared.mail.TheConstants.{LANE_LIMIT};
+    ghost use Rattle.mail_room.specs.AllMail.{MailState};
+
+    ghost Value = { MailState T };
+
+    ghost view = { λ m. record { boxes = m.boxes.items; lists = m.lists; unstored = m.unstored } };
+
+    ghost invariant = { λ m. vec_len m.boxes ≡ LANE_LIMIT };
+}
+
+fn open_boxes<T: Drop>(alloc: Global) -> Result<Vec<Mailbox<T>>, NoMemory>
+    ensures { IfOk result (λ boxes. boxes.items ≡ replicate LANE_LIMIT empty_box) }
+{
+    let mut boxes = Vec::with_capacity(alloc, LANE_LIMIT)?;
+    for _place in 0..LANE_LIMIT {
+        let empty = Mailbox::open(alloc)?;
+        boxes.push(empty)?;
+    }
+    Ok(boxes)
+}
+
+impl<T: Drop> Mail<T> {
+    /// Nothing waits, and no digest is set. No other call is refused for memory.
+    pub fn open(alloc: Global) -> Result<Mail<T>, NoMemory>
+        ensures { IfOk result (λ mail. mail ≡ no_mail) }
+    {
+        let boxes = open_boxes(alloc)?;
+        let lists = Lists::open(alloc)?;
+        Ok(Mail {
+            boxes,
+            lists,
+            unstored: 0,
+        })
+    }
+
+    /// How often memory was missing for a sample, a digest list, or what `count_unstored` was told of.
+    pub fn unstored(&self) -> u64
+        ensures { result ≡ self.now.unstored }
+    {
+        self.unstored
+    }
+
+    /// Sets a digest's configuration, or forgets all that is kept of the digest.
+    pub fn set_digest(&mut self, digest: u32, config: Option<&DigestConfig>)
+        requires { HasRoom self.old.lists digest (option_copied config) }
+        ensures { self.new ≡ with_lists self.old (set_digest self.old.lists digest (option_copied config.entry)) }
+    {
+        self.lists.set(digest, config);
+    }
+
+    /// Acknowledges a list of a digest.
+    pub fn acknowledge(&mut self, digest: u32, list: u64)
+        ensures { self.new ≡ with_lists self.old (acknowledge self.old.lists digest list) }
+    {
+        self.lists.ack(digest, list);
+    }
+
+    /// Puts a notice behind what waits for a lane, with what its call has told. It is dropped where `NOTICE_LIMIT` messages wait, which `next` then
+    /// says once, and until that is said.
+    pub fn notice(&mut self, lane: u16, message: StreamMessageResponse, told: T)
+        requires { IsLane lane }
+        ensures { self.new ≡ notified self.old lane message told }
+    {
+        self.boxes[usize::from(lane)].put_notice(message, told);
+    }
+
+    fn send(&mut self, lane: u16, message: StreamMessageResponse)
+        requires { IsLane lane }
+        ensures { self.new ≡ sent_to self.old lane message }
+    {
+        self.boxes[usize::from(lane)].put_packet(message);
+    }
+
+    /// Puts a packet behind what waits for its lane, where that is one of the live lanes. It is dropped where `PACKET_LIMIT` messages or more wait,
+    /// or an overflow is due.
+    pub fn deliver_packet(&mut self, lane: Option<u16>, packet: PacketIn, live: &[u16])
+        requires { All IsLane live.now }
+        ensures { self.new ≡ packet_in self.old lane packet live.now }
+    {
+        let Some(lane) = lane else {
+            return;
+        };
+        if live.contains(&lane) {
+            self.send(lane, StreamMessageResponse::Packet(packet));
+        }
+    }
+
+    fn send_list(&mut self, primary: Option<u16>, list: Option<DigestList>)
+        requires { IsLaneIfAny primary }
+        ensures { self.new ≡ list_to self.old primary list }
+    {
+        if let (Some(lane), Some(list)) = (primary, list) {
+            self.send(lane, StreamMessageResponse::Digest(list));
+        }
+    }
+
+    /// Counts what was dropped for want of memory before it came here. The count stands still at 2^64 - 1.
+    pub fn count_unstored(&mut self)
+        ensures { self.new ≡ missed self.old }
+    {
+        self.unstored = self.unstored.saturating_add(1);
+    }
+
+    /// Takes a sample of a digest at a moment, in nanoseconds. A list that it makes due goes to the lane of the primary, or nowhere without one.
+    /// Without memory the sample is lost and counted.
+    pub fn deliver_sample(&mut self, digest: u32, sample: P4Data, primary: Option<u16>, now: u64)
+        requires { IsLaneIfAny primary }
+        ensures { (self.new ≡ sampled self.old primary digest sample now) ⊎ (self.new ≡ missed self.old) }
+    {
+        match self.lists.sample(digest, sample, now) {
+            Ok(list) => self.send_list(primary, list),
+            Err(NoMemory) => self.count_unstored(),
+        }
+    }
+
+    // The list of the lowest digest that is due goes to the lane of the primary. Without memory nothing is sent, which is counted.
+    fn tick(&mut self, primary: Option<u16>, now: u64)
+        requires { IsLaneIfAny primary }
+        ensures { (self.new ≡ ticked self.old primary now) ⊎ (self.new ≡ missed self.old) }
+    {
+        match self.lists.tick(now) {
+            Ok(list) => self.send_list(primary, list),
+            Err(NoMemory) => self.count_unstored(),
+        }
+    }
+
+    /// Sends the primary the list of the lowest digest that is due at a moment, in nanoseconds; without memory nothing is sent, which is counted.
+    /// Then gives the lane's oldest message, with what its call has told if it is a notice; else once an overflow, where a notice found no room.
+    pub fn next(&mut self, lane: u16, primary: Option<u16>, now: u64) -> Option<(Next, Option<T>)>
+        requires lane { IsLane lane }
+        requires primary { IsLaneIfAny primary }
+        ensures { Gives (ticked self.old primary now) lane result self.new ⊎ Gives (missed self.old) lane result self.new }
+    {
+        self.tick(primary, now);
+        self.boxes[usize::from(lane)].next()
+    }
+
+    /// Drops what waits for a lane, and forgets that a notice found no room.
+    pub fn clear(&mut self, lane: u16)
+        requires { IsLane lane }
+        ensures { self.new ≡ with_box self.old lane empty_box }
+    {
+        self.boxes[usize::from(lane)].clear();
+    }
+}

@@ -1,0 +1,30 @@
+//! P4Infos, and what they break.
+use p4info_model::{InfoError, read_info, write_info};
+use row_lines::{NoAnswer, bytes, say, tell};
+use std::alloc::Global;
+
+/// Of a P4Info: how many tables and actions it has, and whether its bytes are the canonical ones, or the first rule
+/// that it breaks.
+pub fn info(alloc: Global, asked: &[&str], told: &mut String) -> Result<(), NoAnswer> {
+    let [hex] = asked else {
+        return Err(NoAnswer);
+    };
+    let bytes = bytes(alloc, hex)?;
+    match read_info(alloc, &bytes) {
+        Ok(model) => {
+            tell(told, model.info().tables.len());
+            tell(told, model.info().actions.len());
+            tell(
+                told,
+                write_info(alloc, &model)?.as_slice() == bytes.as_slice(),
+            );
+            Ok(())
+        }
+        Err(InfoError::Fault(fault)) => {
+            say(told, "rule");
+            tell(told, fault.rule);
+            Ok(())
+        }
+        Err(InfoError::NoMemory) => Err(NoAnswer),
+    }
+}

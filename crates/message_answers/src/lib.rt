@@ -1,0 +1,24 @@
+//! What the public calls on messages answer to rows of a table.
+#![tactic(auto)]
+
+mod calls;
+mod infos;
+mod sent;
+mod shown;
+
+use row_lines::NoAnswer;
+use std::alloc::Global;
+
+/// Adds what is answered to a row of this kind with these parts.
+pub fn answer(
+    alloc: Global,
+    kind: &str,
+    asked: &[&str],
+    told: &mut String,
+) -> Result<(), NoAnswer> {
+    match kind {
+        "call" => calls::call(alloc, asked, told),
+        "info" => infos::info(alloc, asked, told),
+        _ => sent::sent(alloc, kind, asked, told),
+    }
+}

@@ -1,0 +1,4 @@
+pub mod Changing
+pub mod Following
+pub mod Numbering
+pub mod Outcomes

@@ -1,0 +1,159 @@
+-- Changes of a plane keep it numbered, and draw no more than is left.
+use Rattle.std.proofs.Common.{◌≡◌, ℕ, ◌+◌, ◌-◌, ◌^◌, ◌<◌, ◌≤◌, ◌||◌, Bool, true, false, cond, List, All, Option, Some, None, is_some, nat_lt, refl, ap, sym, subst, arith}
+use Rattle.std.proofs.lemmas.Bool.Decides.{nat_tests}
+use Rattle.std.proofs.lemmas.List.Elements.{All-filter, All-map, All-append, All-cons, All-weaker}
+use Rattle.p4_types.specs.declared.code.Cause.{Cause}
+use Rattle.p4_types.specs.declared.info.Table.{Table}
+use Rattle.p4_types.specs.declared.table.Change.{Change}
+use Rattle.p4_types.specs.declared.table.Change.TheVariants as changes
+use Rattle.p4_types.specs.declared.table.Entry.{Entry}
+use Rattle.p4_types.specs.declared.table.EntryChange.{EntryChange}
+use Rattle.p4_types.specs.declared.table.EntryName.{EntryName}
+use Rattle.p4_types.specs.declared.table.Room.{Room}
+use Rattle.plane_spec.specs.Entries.{is_full, table_size, entries_of, entry_named, slots_drawn, insert_cause, new_entry, next_number, inserted, modified, deleted, with_change, same_name}
+use Rattle.plane_spec.specs.Objects.{table_of}
+use Rattle.plane_spec.specs.Planes.{Plane, room_of, insert_cause_in, change_cause, cause_in}
+use Rattle.plane_state.specs.declared.plane.Drawn.{Drawn}
+use Rattle.role_arbiter.specs.State.{RolesState}
+use Rattle.plane_state.specs.Versions.{insert_after, plane_after, drawn_by_insert, drawn_by}
+use Rattle.plane_image.specs.Image.{BelowIn, IsNumbered, control_of, after_in, drawn_in}
+
+-- an entry's number is below
+abbrev pub Below : ℕ → Entry → Type 0
+Below next entry = entry.seq < next
+
+below_more : (next more : ℕ) (entries : List Entry) → All (Below next) entries → All (Below (next + more)) entries
+below_more next more entries h = All-weaker (Below next) (Below (next + more)) (λ entry lt. omega (arith, lt)) entries h
+
+pub below_in_more : (next more : ℕ) (o : Option Plane) → BelowIn next o → BelowIn (next + more) o
+below_in_more next more None h = tt
+below_in_more next more (Some plane) h = below_more next more plane.entries h
+
+not_full : (a b c d : Bool) → (a || b || c || d) ≡ false → (c ≡ false) × (d ≡ false)
+not_full false false false false h = (refl, refl)
+not_full false false false true h = absurd (cc)
+not_full false false true d h = absurd (cc)
+not_full false true c d h = absurd (cc)
+not_full true b c d h = absurd (cc)
+
+no_cause : (a b : Bool) (x y : Cause) → (cond a (Some x) (cond b (Some y) None)) ≡ None → b ≡ false
+no_cause false false x y h = refl
+no_cause false true x y h = absurd (cc)
+no_cause true b x y h = absurd (cc)
+
+not_lower : (m n : ℕ) → nat_lt m n ≡ false → n ≤ m
+not_lower m n h = grind (arith, nat_tests)
+
+-- an INSERT that is not refused finds a number and the slots that it draws
+pub record HasLeft (room : Room) (table : Table) : Type 0 where
+  pub numbers : 1 ≤ room.numbers
+  pub slots : slots_drawn table ≤ room.slots
+
+has_left : (table : Table) (room : Room) (name : EntryName) (entries : List Entry) → insert_cause table room name entries ≡ None → HasLeft room table
+unfolding insert_cause
+has_left table room name entries none =
+    let full : is_full table room entries ≡ false = no_cause (is_some (entry_named name entries)) (is_full table room entries) _ _ none in
+    let parts = not_full (nat_lt (table_size table) (entries_of table entries + 1)) (nat_lt room.rows 1) (nat_lt room.slots (slots_drawn table)) (nat_lt room.numbers 1) full in
+    record { numbers = not_lower room.numbers 1 parts.1; slots = not_lower room.slots (slots_drawn table) parts.0 }
+
+-- what a change draws is left
+pub record IsLeft (next slot : ℕ) (drawn drawn_slots : ℕ) : Type 0 where
+  pub numbers : next + drawn ≤ 2 ^ 64 - 1
+  pub slots : slot + drawn_slots ≤ 1048576
+
+nothing_drawn : (next slot : ℕ) → next ≤ 2 ^ 64 - 1 → slot ≤ 1048576 → IsLeft next slot 0 0
+nothing_drawn next slot few low = record { numbers = omega (arith, few); slots = omega (arith, low) }
+
+left_by_insert : (o : Option Table) (room : Room) (plane : Plane) (change : EntryChange) (next slot : ℕ) → next ≤ 2 ^ 64 - 1 → slot ≤ 1048576 → room.numbers ≡ 2 ^ 64 - 1 - next → room.slots ≡ 1048576 - slot
+    → insert_cause_in o room plane change ≡ None → IsLeft next slot (drawn_by_insert o).numbers (drawn_by_insert o).slots
+left_by_insert None room plane change next slot few low numbers slots none = nothing_drawn next slot few low
+left_by_insert (Some table) room plane change next slot few low numbers slots none =
+    let left = has_left table room change.name plane.entries none in
+    record { numbers = omega (arith, left.numbers, numbers, few); slots = omega (arith, left.slots, slots, low) }
+
+left_by : (change : Change) (room : Room) (plane : Plane) (next slot : ℕ) → next ≤ 2 ^ 64 - 1 → slot ≤ 1048576 → room.numbers ≡ 2 ^ 64 - 1 - next → room.slots ≡ 1048576 - slot
+    → change_cause room plane change ≡ None → IsLeft next slot (drawn_by plane change).numbers (drawn_by plane change).slots
+left_by (changes.InsertEntry change) room plane next slot few low numbers slots none = left_by_insert (table_of change.name.table plane.config.info) room plane change next slot few low numbers slots none
+left_by (changes.ModifyEntry change) room plane next slot few low numbers slots none = nothing_drawn next slot few low
+left_by (changes.DeleteEntry name) room plane next slot few low numbers slots none = nothing_drawn next slot few low
+left_by (changes.ModifyDefault table action) room plane next slot few low numbers slots none = nothing_drawn next slot few low
+
+pub left_in : (o : Option Plane) (change : Change) (room : Room) (next slot : ℕ) → next ≤ 2 ^ 64 - 1 → slot ≤ 1048576 → room.numbers ≡ 2 ^ 64 - 1 - next → room.slots ≡ 1048576 - slot
+    → cause_in o room change ≡ None → IsLeft next slot (drawn_in o change).numbers (drawn_in o change).slots
+left_in None change room next slot few low numbers slots none = nothing_drawn next slot few low
+left_in (Some plane) change room next slot few low numbers slots none = left_by change room plane next slot few low numbers slots none
+
+-- the entries after a change have drawn their numbers
+below_inserted : (next : ℕ) (entry : Entry) (entries : List Entry) → entry.seq < next + 1 → All (Below next) entries → All (Below (next + 1)) (inserted entry entries)
+unfolding inserted
+below_inserted next entry entries own h =
+    let more = below_more next 1 entries h in
+    All-append (Below (next + 1)) _ _ (All-filter _ (Below (next + 1)) entries more) (All-cons (Below (next + 1)) entry _ own (All-filter _ (Below (next + 1)) entries more))
+
+below_changed : (b : Bool) (next : ℕ) (change : EntryChange) (entry : Entry) → Below next entry → Below next (cond b (with_change change entry) entry)
+below_changed true next change entry h = h
+below_changed false next change entry h = h
+
+below_modified : (next : ℕ) (change : EntryChange) (entries : List Entry) → All (Below next) entries → All (Below next) (modified change entries)
+unfolding modified
+below_modified next change entries h =
+    All-map (Below next) (λ entry. cond (same_name change.name entry.name) (with_change change entry) entry) entries
+    (All-weaker (Below next) (λ entry. Below next (cond (same_name change.name entry.name) (with_change change entry) entry))
+    (λ entry lt. below_changed (same_name change.name entry.name) next change entry lt) entries h)
+
+below_deleted : (next : ℕ) (name : EntryName) (entries : List Entry) → All (Below next) entries → All (Below next) (deleted name entries)
+unfolding deleted
+below_deleted next name entries h = All-filter _ (Below next) entries h
+
+with_none : (next : ℕ) (entries : List Entry) → All (Below next) entries → All (Below (next + 0)) entries
+with_none next entries h = below_more next 0 entries h
+
+below_insert : (o : Option Table) (room : Room) (plane : Plane) (change : EntryChange) (next : ℕ) → next_number room < next + 1 → All (Below next) plane.entries
+    → All (Below (next + (drawn_by_insert o).numbers)) (insert_after o room plane change).entries
+below_insert None room plane change next own h = with_none next plane.entries h
+below_insert (Some table) room plane change next own h = below_inserted next (new_entry table room change) plane.entries own h
+
+below_after : (change : Change) (room : Room) (plane : Plane) (next : ℕ) → next_number room < next + 1 → All (Below next) plane.entries
+    → All (Below (next + (drawn_by plane change).numbers)) (plane_after room plane change).entries
+below_after (changes.InsertEntry change) room plane next own h = below_insert (table_of change.name.table plane.config.info) room plane change next own h
+below_after (changes.ModifyEntry change) room plane next own h = with_none next _ (below_modified next change plane.entries h)
+below_after (changes.DeleteEntry name) room plane next own h = with_none next _ (below_deleted next name plane.entries h)
+below_after (changes.ModifyDefault table action) room plane next own h = with_none next plane.entries h
+
+pub below_in_after : (o : Option Plane) (change : Change) (room : Room) (next : ℕ) → next_number room < next + 1 → BelowIn next o → BelowIn (next + (drawn_in o change).numbers) (after_in o room change)
+below_in_after None change room next own h = tt
+below_in_after (Some plane) change room next own h = below_after change room plane next own h
+
+-- ---- the control state after a change of a plane
+
+own_number : (room : Room) (next : ℕ) → next ≤ 2 ^ 64 - 1 → room.numbers ≡ 2 ^ 64 - 1 - next → next_number room < next + 1
+own_number room next few is = omega (arith, few, is)
+
+pub staged_numbered : (device cpu rows : ℕ) (roles : RolesState) (active staged : Option Plane) (next slot : ℕ) (closed : Bool) (change : Change) (room : Room) (after : Option Plane) (drawn : Drawn)
+    → IsNumbered (control_of device cpu rows roles active staged next slot closed) → room ≡ room_of (control_of device cpu rows roles active staged next slot closed)
+    → cause_in staged room change ≡ None → after ≡ after_in staged room change → drawn ≡ drawn_in staged change
+    → IsNumbered (control_of device cpu rows roles active after (next + drawn.numbers) (slot + drawn.slots) closed)
+staged_numbered device cpu rows roles active staged next slot closed change room after drawn h room_is none after_is drawn_is =
+    let left = left_in staged change room next slot h.numbers h.slots (ap (λ (r : Room). r.numbers) room_is) (ap (λ (r : Room). r.slots) room_is) none in
+    let below = below_in_after staged change room next (own_number room next h.numbers (ap (λ (r : Room). r.numbers) room_is)) h.staged in
+    let F : Option Plane → Drawn → Type 0 = λ o d. IsNumbered (control_of device cpu rows roles active o (next + d.numbers) (slot + d.slots) closed) in
+    subst (λ (o : Option Plane). F o drawn) (sym after_is) (subst (λ (d : Drawn). F (after_in staged room change) d) (sym drawn_is)
+    (record { active = below_in_more next (drawn_in staged change).numbers active h.active; staged = below; numbers = left.numbers; slots = left.slots }))
+
+pub active_numbered : (device cpu rows : ℕ) (roles : RolesState) (active staged : Option Plane) (next slot : ℕ) (closed : Bool) (change : Change) (room : Room) (after : Option Plane) (drawn : Drawn)
+    → IsNumbered (control_of device cpu rows roles active staged next slot closed) → room ≡ room_of (control_of device cpu rows roles active staged next slot closed)
+    → cause_in active room change ≡ None → after ≡ after_in active room change → drawn ≡ drawn_in active change
+    → IsNumbered (control_of device cpu rows roles after staged (next + drawn.numbers) (slot + drawn.slots) closed)
+active_numbered device cpu rows roles active staged next slot closed change room after drawn h room_is none after_is drawn_is =
+    let left = left_in active change room next slot h.numbers h.slots (ap (λ (r : Room). r.numbers) room_is) (ap (λ (r : Room). r.slots) room_is) none in
+    let below = below_in_after active change room next (own_number room next h.numbers (ap (λ (r : Room). r.numbers) room_is)) h.active in
+    let F : Option Plane → Drawn → Type 0 = λ o d. IsNumbered (control_of device cpu rows roles o staged (next + d.numbers) (slot + d.slots) closed) in
+    subst (λ (o : Option Plane). F o drawn) (sym after_is) (subst (λ (d : Drawn). F (after_in active room change) d) (sym drawn_is)
+    (record { active = below; staged = below_in_more next (drawn_in active change).numbers staged h.staged; numbers = left.numbers; slots = left.slots }))
+
+-- with other planes that are the same
+pub same_numbered : (device cpu rows : ℕ) (roles : RolesState) (active staged active_now staged_now : Option Plane) (next slot : ℕ) (closed : Bool)
+    → active_now ≡ active → staged_now ≡ staged → IsNumbered (control_of device cpu rows roles active staged next slot closed) → IsNumbered (control_of device cpu rows roles active_now staged_now next slot closed)
+same_numbered device cpu rows roles active staged active_now staged_now next slot closed a s h =
+    subst (λ (o : Option Plane). IsNumbered (control_of device cpu rows roles active_now o next slot closed)) (sym s)
+    (subst (λ (o : Option Plane). IsNumbered (control_of device cpu rows roles o staged next slot closed)) (sym a) h)

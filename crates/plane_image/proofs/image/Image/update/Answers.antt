@@ -1,0 +1,12 @@
+use Rattle.std.proofs.Common.{Some, sym, ◌∙◌}
+use Rattle.plane_image.proofs.Outcomes.{err_outcome, ok_outcome}
+use Rattle.plane_image.proofs.image.Image.update.Goals as goal
+
+pub returns-in-Err-clause-outcome : goal.returns-in-Err-clause-outcome
+returns-in-Err-clause-outcome c = sym (err_outcome _ _ _ _ (sym c.resolved.ensures ∙ c.in-Err.is))
+
+pub returns-in-Ok-change-clause-outcome : goal.returns-in-Ok-change-clause-outcome
+returns-in-Ok-change-clause-outcome c = sym (ok_outcome _ _ _ _ _ (sym c.resolved.ensures ∙ c.in-Ok.is) c.in-Ok-change.ensures.refused)
+
+pub returns-in-Err-For-clause-outcome : goal.returns-in-Err-For-clause-outcome
+returns-in-Err-For-clause-outcome c = rw c.in-Err-For.field-0-is (sym (ok_outcome c.args.self.now.now c.args.role c.args.update.now c.in-Ok.change (Some c.in-Err-For.cause) (sym c.resolved.ensures ∙ c.in-Ok.is) (rw c.in-Err-For.field-0-is at c.in-Err-For.ensures.refused)))

@@ -1,0 +1,10 @@
+//! The control state of the switch as the program keeps it: changed in place, by updates that can be undone until they
+//! are kept, and by events.
+#![tactic(auto)]
+
+mod applying;
+mod image;
+mod opening;
+mod updating;
+
+pub use image::Image;

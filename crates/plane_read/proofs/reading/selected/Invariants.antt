@@ -1,0 +1,7 @@
+use Rattle.std.proofs.Common.{◌≡◌, ◌++◌, drop}
+use Rattle.std.specs.List.{flat_map}
+use Rattle.switch_spec.specs.Reading.{selected}
+use Rattle.plane_read.proofs.reading.selected.Given as goal
+
+abbrev pub invariant-loop-entity : goal.invariant-loop-entity
+invariant-loop-entity l = l.answer ++ flat_map (selected l.plane.now) (drop l.entity-index l.entities) ≡ flat_map (selected l.plane.now) l.entities

@@ -1,0 +1,37 @@
+-- What is answered, part by part.
+use Rattle.std.specs.Prelude.{◌≡◌, ℕ, ℤ, ◌||◌, Bool, List, ◌∷◌, ◌++◌, map}
+use Rattle.std.specs.Ordering.{int_eq}
+use Rattle.p4_types.specs.declared.info.Info.{Info}
+use Rattle.p4_types.specs.declared.messages.Entity.{Entity}
+use Rattle.p4_types.specs.declared.messages.Entity.TheVariants as entities
+use Rattle.p4_types.specs.declared.table.Entry.{Entry}
+use Rattle.std.specs.List.{filter_map}
+use Rattle.plane_spec.specs.Planes.{Plane, default_entry}
+use Rattle.switch_spec.specs.Reading.{shown_entry, shown_default, response_bytes, chunks}
+use Rattle.plane_spec.specs.UpdateRules.{is_zero}
+
+-- an entry has the priority; 0 asks for any
+abbrev pub has_priority : ℤ → Entry → Bool
+has_priority priority entry = is_zero priority || int_eq entry.name.priority priority
+
+-- entries, each as it is answered
+abbrev pub answered : Info → List Entry → List Entity
+answered info list = map entities.TableEntry (map (shown_entry info) list)
+
+-- the default actions of tables, each as it is answered
+abbrev pub answered_defaults : Plane → List ℕ → List Entity
+answered_defaults plane tables = map entities.TableEntry (map (shown_default plane.config.info) (filter_map (default_entry plane) tables))
+
+-- the messages for entities of which the first are written, some are gathered, and the others are to come
+abbrev pub messages_of : List (List ℕ) → List Entity → List Entity → List (List ℕ)
+messages_of written gathered others = written ++ map response_bytes (chunks (gathered ++ others))
+
+-- where another entity follows, the messages stay the same
+abbrev pub HasRoom : List (List ℕ) → List Entity → List (List ℕ) → List Entity → Type 0
+HasRoom written gathered written_then gathered_then =
+    (entity : Entity) (others : List Entity) → messages_of written_then gathered_then (entity ∷ others) ≡ messages_of written gathered (entity ∷ others)
+
+-- one entity more is written or gathered
+abbrev pub Continues : List (List ℕ) → List Entity → Entity → List (List ℕ) → List Entity → Type 0
+Continues written gathered entity written_then gathered_then =
+    (others : List Entity) → messages_of written_then gathered_then others ≡ messages_of written gathered (entity ∷ others)

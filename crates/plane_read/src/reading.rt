@@ -1,0 +1,72 @@
+//! The answer to a Read.
+ghost use Rattle.std.specs.Prelude.{◌≡◌, ◌++◌, map, IfOk, OnOk};
+ghost use Rattle.std.specs.List.{flat_map};
+ghost use Rattle.p4_types.specs.declared.messages.Entity.TheVariants as entities;
+ghost use Rattle.switch_spec.specs.Reading.{read_unless, first_of, entity_refusal, selected, selected_entries};
+
+use crate::{defaults, messages, refusals, selecting};
+use list_types::{ByteList, List, NoMemory};
+use p4_types::code::Code;
+use p4_types::messages::{Entity, TableEntry};
+use plane_state::Plane;
+use std::alloc::Global;
+
+fn push_asked(
+    alloc: Global,
+    plane: &Plane,
+    asked: &TableEntry,
+    answer: &mut List<Entity>,
+) -> Result<(), NoMemory>
+    ensures { OnOk result (answer.new ≡ answer.old ++ map entities.TableEntry (selected_entries plane.now.now asked.now)) }
+{
+    if asked.is_default_action {
+        defaults::push_defaults(alloc, plane, asked, answer)
+    } else {
+        selecting::push_selected(alloc, plane, asked, answer)
+    }
+}
+
+fn push_selected(
+    alloc: Global,
+    plane: &Plane,
+    entity: &Option<Entity>,
+    answer: &mut List<Entity>,
+) -> Result<(), NoMemory>
+    ensures { OnOk result (answer.new ≡ answer.old ++ selected plane.now.now entity.now) }
+{
+    match entity {
+        Some(Entity::TableEntry(asked)) => push_asked(alloc, plane, asked, answer),
+        _ => Ok(()),
+    }
+}
+
+fn selected(
+    alloc: Global,
+    plane: &Plane,
+    entities: &[Option<Entity>],
+) -> Result<List<Entity>, NoMemory>
+    ensures { IfOk result (λ list. list ≡ flat_map (selected plane.now.now) entities.now) }
+{
+    let mut answer = List::new(alloc);
+    for entity in entities {
+        push_selected(alloc, plane, entity, &mut answer)?;
+    }
+    Ok(answer)
+}
+
+/// The messages that answer a Read of these entities, each with at most 1,024 of what is selected (P4Runtime 1.3.0,
+/// "Read RPC"); or the code of the first entity asked for that is refused. Entries come by rising table id, those of
+/// one table in the order in which they were inserted.
+pub fn read(
+    alloc: Global,
+    plane: &Plane,
+    entities: &[Option<Entity>],
+) -> Result<Result<List<ByteList>, Code>, NoMemory>
+    ensures { IfOk result (λ answer. answer ≡ read_unless (first_of (map (entity_refusal plane.now.now.config.info) entities.now)) plane.now.now entities.now) }
+{
+    if let Some(code) = refusals::refusal(plane.config().info(), entities) {
+        return Ok(Err(code));
+    }
+    let answer = selected(alloc, plane, entities)?;
+    Ok(Ok(messages::messages(alloc, answer)?))
+}

@@ -1,0 +1,80 @@
+-- What each event keeps of the planes, by counts; and that it makes them sound.
+use Rattle.std.proofs.Common.{◌≡◌, ℕ, ◌+◌, ◌-◌, ◌^◌, ◌≤◌, ◌==◌, ◌++◌, Option, Some, None, IfSome, arith}
+use Rattle.std.specs.List.{count_by}
+use Rattle.p4_types.specs.declared.info.Table.{Table}
+use Rattle.plane_spec.specs.Config.{Config, cells_in}
+use Rattle.plane_spec.specs.Entries.{slot_limit, table_size}
+use Rattle.plane_spec.specs.Objects.{table_of}
+use Rattle.plane_spec.specs.Planes.{Control, Plane, rows_in, made_plane}
+use Rattle.plane_spec.specs.PlaneLaws.{numbers_of, slots_of, IsSoundPlane, IsSoundControl}
+use Rattle.plane_spec.proofs.Drawn.{times, drawn, times-append, times-numbers_from, below_next, distinct}
+use Rattle.plane_spec.proofs.EntryOrder.{Stand, in_order}
+
+-- no table has more entries than its size
+abbrev pub AreWithinSizes : Plane → Type 0
+AreWithinSizes plane = (id : ℕ) (table : Table) → table_of id plane.config.info ≡ Some table → count_by (λ entry. entry.name.table == id) plane.entries ≤ table_size table
+
+-- a plane's entries stand in order, and no table has more than its size
+pub record IsKeptPlane (plane : Plane) : Type 0 where
+  pub stand : Stand plane.entries
+  pub sizes : AreWithinSizes plane
+
+-- The same as a sound control state, of its parts: each number and each slot stands once at most in both planes, and only if it was drawn.
+pub record AreKept (active staged : Option Plane) (next next_slot limit : ℕ) : Type 0 where
+  pub active_plane : IfSome active IsKeptPlane
+  pub staged_plane : IfSome staged IsKeptPlane
+  pub numbers : (x : ℕ) → times x (numbers_of active) + times x (numbers_of staged) ≤ drawn next x
+  pub slots : (x : ℕ) → times x (slots_of active) + times x (slots_of staged) ≤ drawn next_slot x
+  pub rows : rows_in active + rows_in staged ≤ limit
+  pub number_limit : next ≤ 2 ^ 64 - 1
+  pub slot_limit : next_slot ≤ slot_limit
+
+abbrev pub IsKept : Control → Type 0
+IsKept c = AreKept c.active c.staged c.next c.next_slot c.rows
+
+sound_plane : (o : Option Plane) → IfSome o IsKeptPlane → IfSome o IsSoundPlane
+sound_plane None h = tt
+sound_plane (Some plane) h = record { order = in_order plane.entries h.stand; sizes = h.sizes }
+
+pub sound : (c : Control) → IsKept c → IsSoundControl c
+sound c k =
+    let numbers : (x : ℕ) → times x (numbers_of c.active ++ numbers_of c.staged) ≤ drawn c.next x = λ x. omega (arith, k.numbers x, times-append x (numbers_of c.active) (numbers_of c.staged)) in
+    let slots : (x : ℕ) → times x (slots_of c.active ++ slots_of c.staged) ≤ drawn c.next_slot x = λ x. omega (arith, k.slots x, times-append x (slots_of c.active) (slots_of c.staged)) in record {
+      active = sound_plane c.active k.active_plane;
+      staged = sound_plane c.staged k.staged_plane;
+      numbers = below_next c.next _ numbers;
+      numbers_apart = distinct c.next _ numbers;
+      slots = below_next c.next_slot _ slots;
+      slots_apart = distinct c.next_slot _ slots;
+      rows = k.rows;
+      number_limit = k.number_limit;
+      slot_limit = k.slot_limit;
+    }
+
+pub kept_at_first : (rows : ℕ) → AreKept None None 1 0 rows
+kept_at_first rows = record { active_plane = tt; staged_plane = tt; numbers = λ x. omega arith; slots = λ x. omega arith; rows = omega arith; number_limit = omega arith; slot_limit = omega arith }
+
+-- a new plane is staged
+pub kept_saved : (active staged : Option Plane) (next next_slot rows : ℕ) (config : Config) → AreKept active staged next next_slot rows → next_slot + cells_in config ≤ slot_limit
+    → AreKept active (Some (made_plane next_slot config)) next (next_slot + cells_in config) rows
+kept_saved active staged next next_slot rows config k fits = record {
+  active_plane = k.active_plane;
+  staged_plane = record { stand = tt; sizes = λ id table is. omega arith };
+  numbers = λ x. omega (arith, k.numbers x);
+  slots = λ x. omega (arith, k.slots x, times-numbers_from x (cells_in config) next_slot);
+  rows = omega (arith, k.rows);
+  number_limit = k.number_limit;
+  slot_limit = fits;
+}
+
+-- the staged plane becomes the active one
+pub kept_committed : (active : Option Plane) (plane : Plane) (next next_slot rows : ℕ) → AreKept active (Some plane) next next_slot rows → AreKept (Some plane) None next next_slot rows
+kept_committed active plane next next_slot rows k = record {
+  active_plane = k.staged_plane;
+  staged_plane = tt;
+  numbers = λ x. omega (arith, k.numbers x);
+  slots = λ x. omega (arith, k.slots x);
+  rows = omega (arith, k.rows);
+  number_limit = k.number_limit;
+  slot_limit = k.slot_limit;
+}

@@ -1,0 +1,9 @@
+pub mod ChangedPlanes
+pub mod Counts
+pub mod Drawn
+pub mod EntryOrder
+pub mod KeptPlanes
+pub mod Lists
+pub mod SoundPlanes
+pub mod SoundRoles
+pub mod Steady

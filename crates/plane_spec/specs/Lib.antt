@@ -1,0 +1,10 @@
+pub mod Bridge
+pub mod Config
+pub mod Entries
+pub mod Legal
+pub mod Objects
+pub mod Order
+pub mod PlaneLaws
+pub mod Planes
+pub mod RoleLaws
+pub mod UpdateRules

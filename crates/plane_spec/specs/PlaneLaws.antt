@@ -1,0 +1,47 @@
+-- What holds of the planes in each state of a run.
+use Rattle.std.specs.Prelude.{◌≡◌, ℕ, zero, suc, ◌+◌, ◌-◌, ◌^◌, ◌<◌, ◌≤◌, ◌==◌, List, [], ◌∷◌, ◌++◌, map, count_by, All, Option, Some, None, IfSome, nat_eq}
+use Rattle.std.specs.List.{AllPairs, IsDistinct, filter_map}
+use Rattle.p4_types.specs.declared.events.Start.{Start}
+use Rattle.p4_types.specs.declared.info.Table.{Table}
+use Rattle.plane_spec.specs.Config.{Event, cells_in}
+use Rattle.plane_spec.specs.Entries.{slot_limit, table_size}
+use Rattle.plane_spec.specs.Legal.{Legal}
+use Rattle.plane_spec.specs.Objects.{table_of}
+use Rattle.plane_spec.specs.Order.{StandsBefore}
+use Rattle.plane_spec.specs.Planes.{Control, Plane, opened, applied, rows_used}
+
+-- so many numbers, from this one on
+abbrev pub numbers_from : ℕ → ℕ → List ℕ
+numbers_from zero first = []
+numbers_from (suc more) first = first ∷ numbers_from more (first + 1)
+
+-- the sequence numbers of a plane's entries
+abbrev pub numbers_of : Option Plane → List ℕ
+numbers_of None = []
+numbers_of (Some plane) = map (λ entry. entry.seq) plane.entries
+
+-- the slots of a plane's entries and cells
+abbrev pub slots_of : Option Plane → List ℕ
+slots_of None = []
+slots_of (Some plane) = filter_map (λ entry. entry.slot) plane.entries ++ numbers_from (cells_in plane.config) plane.cells
+
+-- the entries of a plane stand in order, no two of one name, and no table has more than its size
+pub record IsSoundPlane (plane : Plane) : Type 0 where
+  pub order : AllPairs StandsBefore plane.entries
+  pub sizes : (id : ℕ) (table : Table) → table_of id plane.config.info ≡ Some table → count_by (λ entry. entry.name.table == id) plane.entries ≤ table_size table
+
+-- both planes are sound, what they drew was drawn once and is below what is drawn next, and the limits are kept
+pub record IsSoundControl (c : Control) : Type 0 where
+  pub active : IfSome c.active IsSoundPlane
+  pub staged : IfSome c.staged IsSoundPlane
+  pub numbers : All (λ seq. seq < c.next) (numbers_of c.active ++ numbers_of c.staged)
+  pub numbers_apart : IsDistinct nat_eq (numbers_of c.active ++ numbers_of c.staged)
+  pub slots : All (λ slot. slot < c.next_slot) (slots_of c.active ++ slots_of c.staged)
+  pub slots_apart : IsDistinct nat_eq (slots_of c.active ++ slots_of c.staged)
+  pub rows : rows_used c ≤ c.rows
+  pub number_limit : c.next ≤ 2 ^ 64 - 1
+  pub slot_limit : c.next_slot ≤ slot_limit
+
+-- After any events that may follow one another the planes are sound.
+abbrev pub PlanesStaySound : Type 0
+PlanesStaySound = (start : Start) (list : List Event) → Legal (opened start) list → IsSoundControl (applied (opened start) list)

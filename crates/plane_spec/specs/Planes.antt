@@ -1,0 +1,243 @@
+-- The control state of the switch, and what changes it (P4Runtime 1.3.0, "Mastership Arbitration", "Table entries", "SetForwardingPipelineConfig RPC").
+use Rattle.std.specs.Prelude.{ℕ, ◌+◌, ◌-◌, ◌^◌, ◌==◌, ◌&&◌, not, nat_lt, Bool, true, false, if◌then◌else◌, List, [], ◌∷◌, ◌++◌, length, Option, Some, None, option_map, is_some, fold, take, find, filter, Result, Ok, Err}
+use Rattle.p4_types.specs.declared.code.Cause.{Cause}
+use Rattle.p4_types.specs.declared.code.Code.TheVariants as codes
+use Rattle.p4_types.specs.declared.code.Rule.TheVariants as rules
+use Rattle.p4_types.specs.declared.events.Committed.TheVariants as contents
+use Rattle.p4_types.specs.declared.events.Event.TheVariants as events
+use Rattle.p4_types.specs.declared.events.Origin.{Origin}
+use Rattle.p4_types.specs.declared.events.Start.{Start}
+use Rattle.p4_types.specs.declared.info.Table.{Table}
+use Rattle.p4_types.specs.declared.messages.Uint128.{Uint128}
+use Rattle.p4_types.specs.declared.messages.Update.{Update}
+use Rattle.p4_types.specs.declared.table.ActionCall.{ActionCall}
+use Rattle.p4_types.specs.declared.table.Change.{Change}
+use Rattle.p4_types.specs.declared.table.Change.TheVariants as changes
+use Rattle.p4_types.specs.declared.table.DefaultAction.{DefaultAction}
+use Rattle.p4_types.specs.declared.table.Entry.{Entry}
+use Rattle.p4_types.specs.declared.table.EntryChange.{EntryChange}
+use Rattle.p4_types.specs.declared.table.Room.{Room}
+use Rattle.role_arbiter.specs.declared.sessions.Session.{Session}
+use Rattle.role_arbiter.specs.Arbitration.{arbitrated, settled, left}
+use Rattle.role_arbiter.specs.Election.{election_number}
+use Rattle.role_arbiter.specs.State.{RolesState, no_roles, primary_of}
+use Rattle.plane_spec.specs.Bridge.{bridge_config, bridge_session}
+use Rattle.plane_spec.specs.Config.{Config, Committed, Event, cells_in}
+use Rattle.plane_spec.specs.Entries.{slot_limit, insert_cause, absence_cause, new_entry, slots_drawn, inserted, modified, deleted}
+use Rattle.plane_spec.specs.Objects.{table_of}
+use Rattle.plane_spec.specs.UpdateRules.{resolution, caused, unless}
+
+-- the state of a program
+pub record Plane : Type 0 where
+  pub config : Config
+  -- by rising table id, those of one table by rising sequence number
+  pub entries : List Entry
+  -- the default actions that were changed, by rising table id
+  pub changed : List DefaultAction
+  -- the slot of the first cell of its indirect counters; those of the others follow, in the order of the P4Info
+  pub cells : ℕ
+
+-- the control state of the switch: what calls are answered from, and what events change
+pub record Control : Type 0 where
+  pub device : ℕ
+  -- the port at which packets from and to a controller pass
+  pub cpu : ℕ
+  -- how many rows the entries of both planes may take together, each one
+  pub rows : ℕ
+  -- the live sessions, and the roles with the greatest election ids that they received
+  pub roles : RolesState
+  -- what packets run through, or none
+  pub active : Option Plane
+  -- what was saved to be committed later, or none
+  pub staged : Option Plane
+  -- the sequence number that the next entry draws
+  pub next : ℕ
+  -- the slot that the next counter draws
+  pub next_slot : ℕ
+  -- whether the list of events has ended
+  pub closed : Bool
+
+-- a plane of a configuration with nothing written, whose cells draw the slots from this one on
+abbrev pub made_plane : ℕ → Config → Plane
+made_plane slot config = record { config = config; entries = []; changed = []; cells = slot }
+
+-- The bridge starts with an empty table and its session. It has no counters.
+abbrev pub opened : Start → Control
+opened start = record {
+  device = start.device;
+  cpu = start.cpu;
+  rows = start.rows;
+  roles = if start.bridge then arbitrated no_roles bridge_session else no_roles;
+  active = if start.bridge then Some (made_plane 0 bridge_config) else None;
+  staged = None;
+  next = 1;
+  next_slot = 0;
+  closed = false;
+}
+
+-- the first, or else the other
+abbrev pub or_else : {A : Type 0} → Option A → Option A → Option A
+or_else (Some x) other = Some x
+or_else None other = other
+
+-- the plane that controllers write and read: the staged one where there is one, else the active one
+abbrev pub target : Control → Option Plane
+target c = or_else c.staged c.active
+
+-- the session of a role's primary, if it has one
+abbrev pub primary : Control → ℕ → Option Session
+primary c role = primary_of c.roles role
+
+-- an election id is that of the primary, if there is one, and not 0
+abbrev pub is_of_primary : Option Session → Uint128 → Bool
+is_of_primary None id = false
+is_of_primary (Some p) id = (election_number p.election_id == election_number id) && not (election_number id == 0)
+
+-- the ids that a session may write, or none where it may write all
+abbrev pub scope_in : Option Session → Option (List ℕ)
+scope_in None = None
+scope_in (Some p) = p.config
+
+-- the ids that a role's primary may write, or none where it may write all
+abbrev pub scope_of : Control → ℕ → Option (List ℕ)
+scope_of c role = scope_in (primary c role)
+
+-- how many rows a plane takes
+abbrev pub rows_in : Option Plane → ℕ
+rows_in None = 0
+rows_in (Some plane) = length plane.entries
+
+-- how many rows both planes take
+abbrev pub rows_used : Control → ℕ
+rows_used c = rows_in c.active + rows_in c.staged
+
+-- what is left to be drawn
+abbrev pub room_of : Control → Room
+room_of c = record { rows = c.rows - rows_used c; slots = slot_limit - c.next_slot; numbers = 2 ^ 64 - 1 - c.next }
+
+-- U10 and U12: why an INSERT is refused
+abbrev pub insert_cause_in : Option Table → Room → Plane → EntryChange → Option Cause
+insert_cause_in None room plane change = caused rules.U3 codes.NotFound
+insert_cause_in (Some table) room plane change = insert_cause table room change.name plane.entries
+
+-- U10 to U12: why a change is refused in the state as it is. A default entry counts as present.
+abbrev pub change_cause : Room → Plane → Change → Option Cause
+change_cause room plane (changes.InsertEntry change) = insert_cause_in (table_of change.name.table plane.config.info) room plane change
+change_cause room plane (changes.ModifyEntry change) = absence_cause change.name plane.entries
+change_cause room plane (changes.DeleteEntry name) = absence_cause name plane.entries
+change_cause room plane (changes.ModifyDefault table action) = None
+
+-- why a change of the target plane is refused; without a plane no table is known
+abbrev pub cause_in : Option Plane → Room → Change → Option Cause
+cause_in None room change = caused rules.U3 codes.NotFound
+cause_in (Some plane) room change = change_cause room plane change
+
+-- a changed default action as a list, or none
+abbrev pub as_default : ℕ → Option ActionCall → List DefaultAction
+as_default table None = []
+as_default table (Some action) = (record { table = table; action = action }) ∷ []
+
+-- a table's changed default action, or the program's again
+abbrev pub with_default : ℕ → Option ActionCall → List DefaultAction → List DefaultAction
+with_default table action defaults = filter (λ d. nat_lt d.table table) defaults ++ as_default table action ++ filter (λ d. nat_lt table d.table) defaults
+
+-- the default action of a table among these, if there is one
+abbrev pub default_in : ℕ → List DefaultAction → Option DefaultAction
+default_in table defaults = find (λ d. d.table == table) defaults
+
+-- what a table's miss runs: the changed default action, else the program's own, if it has one
+abbrev pub miss_action : Plane → ℕ → Option ActionCall
+miss_action plane table = option_map (λ d. d.action) (or_else (default_in table plane.changed) (default_in table plane.config.defaults))
+
+-- the default entry of a table that a Read shows: the changed one, else the program's own, if it has one
+abbrev pub default_entry : Plane → ℕ → Option DefaultAction
+default_entry plane table = or_else (default_in table plane.changed) (default_in table plane.config.defaults)
+
+-- with another plane in the place of the target
+abbrev pub with_target : Control → Plane → Control
+with_target c plane = if is_some c.staged then record c { staged = Some plane } else record c { active = Some plane }
+
+-- with other entries in the target plane
+abbrev pub with_entries : Control → Plane → List Entry → Control
+with_entries c plane entries = with_target c (record plane { entries = entries })
+
+-- with an entry more, and the numbers that it draws
+abbrev pub inserted_in : Option Table → Control → Plane → EntryChange → Control
+inserted_in None c plane change = c
+inserted_in (Some table) c plane change =
+    record (with_entries c plane (inserted (new_entry table (room_of c) change) plane.entries)) { next = c.next + 1; next_slot = c.next_slot + slots_drawn table }
+
+-- the state after a change of the target plane that is not refused
+abbrev pub changed : Control → Plane → Change → Control
+changed c plane (changes.InsertEntry change) = inserted_in (table_of change.name.table plane.config.info) c plane change
+changed c plane (changes.ModifyEntry change) = with_entries c plane (modified change plane.entries)
+changed c plane (changes.DeleteEntry name) = with_entries c plane (deleted name plane.entries)
+changed c plane (changes.ModifyDefault table action) = with_target c (record plane { changed = with_default table action plane.changed })
+
+-- the state after a change, which stays where there is a cause to refuse it
+abbrev pub changed_unless : Option Cause → Control → Plane → Change → Control
+changed_unless None c plane change = changed c plane change
+changed_unless (Some cause) c plane change = c
+
+-- the same, which stays too where there is no plane
+abbrev pub changed_in : Option Plane → Control → Change → Control
+changed_in None c change = c
+changed_in (Some plane) c change = changed_unless (change_cause (room_of c) plane change) c plane change
+
+-- the state after a change of the target plane; one that cannot take effect leaves it
+unfoldable pub change_applied : Control → Change → Control
+change_applied c change = changed_in (target c) c change
+
+-- the session that an arbitration makes, with a configuration or without
+abbrev pub session_by : Origin → Option (List ℕ) → Session
+session_by by config = record { caller = by.caller; role = by.role; election_id = by.election_id; config = config }
+
+-- with other roles
+abbrev pub with_roles : Control → RolesState → Control
+with_roles c roles = record c { roles = roles }
+
+-- a plane of a configuration is staged, in the place of one that was
+abbrev pub saved : Control → Config → Control
+saved c config = record c { staged = Some (made_plane c.next_slot config); next_slot = c.next_slot + cells_in config }
+
+-- the staged plane becomes the active one; without one nothing changes
+abbrev pub staged_committed : Option Plane → Control → Control
+staged_committed None c = c
+staged_committed (Some plane) c = record c { active = Some plane; staged = None }
+
+-- a plane becomes the active one, and none is staged
+abbrev pub committed : Control → Committed → Control
+committed c contents.Staged = staged_committed c.staged c
+committed c (contents.Fresh config) = record c { active = Some (made_plane c.next_slot config); staged = None; next_slot = c.next_slot + cells_in config }
+
+-- the state after an event; one that cannot take effect leaves it
+abbrev pub apply : Control → Event → Control
+apply c (events.Arbitrate by config) = with_roles c (settled c.roles (session_by by config))
+apply c (events.Leave caller call) = with_roles c (left c.roles caller)
+apply c (events.Change by change) = change_applied c change
+apply c (events.Batch by list) = fold change_applied c list
+apply c (events.Save by config) = saved c config
+apply c (events.Commit by content) = committed c content
+apply c events.Close = record c { closed = true }
+
+-- the state after events in order
+abbrev pub applied : Control → List Event → Control
+applied c list = fold apply c list
+
+-- what an update does: it changes something, or breaks a rule
+abbrev pub checked : Room → Plane → Result Change Cause → Result Change Cause
+checked room plane (Err cause) = Err cause
+checked room plane (Ok change) = unless (change_cause room plane change) change
+
+-- what an update does to a plane, or why it is refused; without a plane no table is known
+abbrev pub outcome_in : Option Plane → Control → ℕ → Update → Result Change Cause
+outcome_in None c role update = Err (record { rule = rules.U3; code = codes.NotFound })
+outcome_in (Some plane) c role update = checked (room_of c) plane (resolution plane.config.info (scope_of c role) update)
+
+-- what an update of a role's primary does in this state: the first rule of U1 to U12 that it breaks, or its change
+unfoldable pub outcome : Control → ℕ → Update → Result Change Cause
+outcome c role update = outcome_in (target c) c role update
+
+-- the state after the first n steps of the list; Close is none, and comes last
+abbrev pub after : Start → List Event → ℕ → Control
+after start list n = applied (opened start) (take n list)

@@ -1,0 +1,4 @@
+pub mod Rows
+pub mod Free
+pub mod Lending
+pub mod LendingRow

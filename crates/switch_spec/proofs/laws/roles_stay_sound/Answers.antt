@@ -1,5 +1,0 @@
-use Rattle.switch_spec.proofs.SoundRoles.{roles_stay_sound}
-use Rattle.switch_spec.proofs.laws.roles_stay_sound.Goals as goal
-
-pub returns : goal.returns
-returns c = record { law = roles_stay_sound }

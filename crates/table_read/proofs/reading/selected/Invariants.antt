@@ -1,7 +1,0 @@
-use Rattle.std.proofs.Common.{◌≡◌, ◌++◌, drop}
-use Rattle.std.specs.List.{flat_map}
-use Rattle.switch_spec.specs.Reading.{selected}
-use Rattle.table_read.proofs.reading.selected.Given as goal
-
-abbrev pub invariant-loop-entity : goal.invariant-loop-entity
-invariant-loop-entity l = l.answer ++ flat_map (selected l.plane) (drop l.entity-index l.entities) ≡ flat_map (selected l.plane) l.entities

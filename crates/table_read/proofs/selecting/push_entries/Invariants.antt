@@ -1,8 +1,0 @@
-use Rattle.std.proofs.Common.{◌≡◌, ◌++◌, drop, filter}
-use Rattle.table_read.specs.Answered.{answered, has_priority}
-use Rattle.table_read.proofs.selecting.push_entries.Given as goal
-
-abbrev pub invariant-loop-entry : goal.invariant-loop-entry
-invariant-loop-entry l =
-    l.answer ++ answered l.info (filter (has_priority l.asked.priority) (drop l.entry-index l.entries))
-    ≡ l.initial.answer ++ answered l.info (filter (has_priority l.asked.priority) l.entries)

@@ -1,0 +1,9 @@
+use Rattle.std.proofs.Common.{length, sym, ap, ◌∙◌}
+use Rattle.table_store.proofs.Undo.{settled_was, settled_store}
+use Rattle.table_store.proofs.store.TableStore.keep.Goals as goal
+
+pub invariant_of-self : goal.invariant_of-self
+invariant_of-self c = settled_store _ _ _ c.settle_all.ensures.groups (c.self.invariant.entries ∙ ap length (sym c.settle_all.ensures.entries)) c.settle_all.ensures.settled c.clear.ensures.items
+
+pub returns-clause-before : goal.returns-clause-before
+returns-clause-before c = settled_was _ c.settle_all.ensures.settled ∙ c.settle_all.ensures.entries ∙ ap (λ v. v.entries) c.self.view_is
