@@ -2,10 +2,7 @@
 use Rattle.std.proofs.Common.{◌≡◌, ℕ, ◌^◌, ◌<◌, Bool, true, false, not, List, length, refl, sym, ap, arith}
 use Rattle.std.specs.Prelude.{◌&&◌, if◌then◌else◌, slice_index}
 use Rattle.bm_expr.specs.declared.store.FieldPlace.{FieldPlace}
-use Rattle.bm_expr.specs.declared.expression.Number.{Number}
-use Rattle.bm_expr.specs.declared.expression.Number.TheVariants.{Field, Literal, Datum, Add', Subtract', Multiply', ShiftLeft', ShiftRight', BitAnd', BitOr', BitXor', BitNot', Choose', OfTruth'}
-use Rattle.bm_expr.specs.declared.expression.Truth.{Truth}
-use Rattle.bm_expr.specs.declared.expression.Truth.TheVariants.{Constant, Equal', NotEqual', Less', LessOrEqual', Greater', GreaterOrEqual', And', Or', Not', Select', IsValid, OfNumber'}
+use Rattle.bm_expr.specs.Trees.{Number, Truth, Field, Literal, Datum, Add, Subtract, Multiply, ShiftLeft, ShiftRight, BitAnd, BitOr, BitXor, BitNot, Choose, OfTruth, Constant, Equal, NotEqual, Less, LessOrEqual, Greater, GreaterOrEqual, And, Or, Not, Select, IsValid, OfNumber}
 use Rattle.bm_expr.specs.Store.{Contents, header_valid, field_read}
 use Rattle.bm_expr.specs.Meaning.{number_value, truth_value, NumberInStore, TruthInStore}
 use Rattle.bm_expr.specs.Settled.{is_literal, is_settled, number_operands_settled, truth_operands_settled}
@@ -29,87 +26,87 @@ mutual
   number_agrees store args words (Field place) within ok = word_agrees true (field_read store place) (field_word store args place words within.field)
   number_agrees store args words (Literal n) within ok = word_agrees true n within
   number_agrees store args words (Datum i) within ok = word_agrees true (slice_index args i) (words.words i 0 within)
-  number_agrees store args words (Add' _ x _ y) within ok =
+  number_agrees store args words (Add x y) within ok =
       let p = both (number_operands_settled x) (number_operands_settled y) ok in
       add_agrees (number_agrees store args words x within.0 p.0) (number_agrees store args words y within.1 p.1)
-  number_agrees store args words (Subtract' _ x _ y) within ok =
+  number_agrees store args words (Subtract x y) within ok =
       let p = both (number_operands_settled x) (number_operands_settled y) ok in
       subtract_agrees (number_agrees store args words x within.0 p.0) (number_agrees store args words y within.1 p.1)
-  number_agrees store args words (Multiply' _ x _ y) within ok =
+  number_agrees store args words (Multiply x y) within ok =
       let p = both (number_operands_settled x) (number_operands_settled y) ok in
       multiply_agrees (number_agrees store args words x within.0 p.0) (number_agrees store args words y within.1 p.1)
-  number_agrees store args words (ShiftLeft' _ x _ y) within ok =
+  number_agrees store args words (ShiftLeft x y) within ok =
       let p = both (number_operands_settled x && number_operands_settled y) (is_settled y) ok in
       let q = both (number_operands_settled x) (number_operands_settled y) p.0 in
       left_agrees (number_agrees store args words x within.0 q.0) ((number_agrees store args words y within.1 q.1).exact p.1)
-  number_agrees store args words (ShiftRight' _ x _ y) within ok =
+  number_agrees store args words (ShiftRight x y) within ok =
       let p = both (number_operands_settled x && number_operands_settled y && is_settled x) (is_settled y) ok in
       let q = both (number_operands_settled x && number_operands_settled y) (is_settled x) p.0 in
       let r = both (number_operands_settled x) (number_operands_settled y) q.0 in
       let a = number_agrees store args words x within.0 r.0 in
       right_agrees (is_settled x) (value-lt a) (a.exact q.1) ((number_agrees store args words y within.1 r.1).exact p.1)
-  number_agrees store args words (BitAnd' _ x _ y) within ok =
+  number_agrees store args words (BitAnd x y) within ok =
       let p = both (number_operands_settled x) (number_operands_settled y) ok in
       and_agrees (literal_settled x) (literal_settled y) (number_agrees store args words x within.0 p.0) (number_agrees store args words y within.1 p.1)
-  number_agrees store args words (BitOr' _ x _ y) within ok =
+  number_agrees store args words (BitOr x y) within ok =
       let p = both (number_operands_settled x) (number_operands_settled y) ok in
       or_agrees (number_agrees store args words x within.0 p.0) (number_agrees store args words y within.1 p.1)
-  number_agrees store args words (BitXor' _ x _ y) within ok =
+  number_agrees store args words (BitXor x y) within ok =
       let p = both (number_operands_settled x) (number_operands_settled y) ok in
       xor_agrees (number_agrees store args words x within.0 p.0) (number_agrees store args words y within.1 p.1)
-  number_agrees store args words (BitNot' _ x) within ok = not_agrees (number_agrees store args words x within ok)
-  number_agrees store args words (Choose' _ c _ x _ y) within ok =
+  number_agrees store args words (BitNot x) within ok = not_agrees (number_agrees store args words x within ok)
+  number_agrees store args words (Choose c x y) within ok =
       let p = both (truth_operands_settled c && number_operands_settled x) (number_operands_settled y) ok in
       let q = both (truth_operands_settled c) (number_operands_settled x) p.0 in
       choose_agrees (truth_agrees_with store args words c within.0 q.0) (number_agrees store args words x within.1 q.1) (number_agrees store args words y within.2 p.1)
-  number_agrees store args words (OfTruth' _ t) within ok = truth_agrees (truth_agrees_with store args words t within ok)
+  number_agrees store args words (OfTruth t) within ok = truth_agrees (truth_agrees_with store args words t within ok)
 
   truth_agrees_with : (store : Contents) (args : List ℕ) → HasWords store args → (t : Truth) → TruthInStore store args t → truth_operands_settled t ≡ true
       → truth_value store args t ≡ whole_truth store args t
   truth_agrees_with store args words (Constant b) within ok = refl
-  truth_agrees_with store args words (Equal' _ x _ y) within ok =
+  truth_agrees_with store args words (Equal x y) within ok =
       let p = both (number_operands_settled x && number_operands_settled y && is_settled x) (is_settled y) ok in
       let q = both (number_operands_settled x && number_operands_settled y) (is_settled x) p.0 in
       let r = both (number_operands_settled x) (number_operands_settled y) q.0 in
       rw ((number_agrees store args words x within.0 r.0).exact q.1, (number_agrees store args words y within.1 r.1).exact p.1) refl
-  truth_agrees_with store args words (NotEqual' _ x _ y) within ok =
+  truth_agrees_with store args words (NotEqual x y) within ok =
       let p = both (number_operands_settled x && number_operands_settled y && is_settled x) (is_settled y) ok in
       let q = both (number_operands_settled x && number_operands_settled y) (is_settled x) p.0 in
       let r = both (number_operands_settled x) (number_operands_settled y) q.0 in
       rw ((number_agrees store args words x within.0 r.0).exact q.1, (number_agrees store args words y within.1 r.1).exact p.1) refl
-  truth_agrees_with store args words (Less' _ x _ y) within ok =
+  truth_agrees_with store args words (Less x y) within ok =
       let p = both (number_operands_settled x && number_operands_settled y && is_settled x) (is_settled y) ok in
       let q = both (number_operands_settled x && number_operands_settled y) (is_settled x) p.0 in
       let r = both (number_operands_settled x) (number_operands_settled y) q.0 in
       rw ((number_agrees store args words x within.0 r.0).exact q.1, (number_agrees store args words y within.1 r.1).exact p.1) refl
-  truth_agrees_with store args words (LessOrEqual' _ x _ y) within ok =
+  truth_agrees_with store args words (LessOrEqual x y) within ok =
       let p = both (number_operands_settled x && number_operands_settled y && is_settled x) (is_settled y) ok in
       let q = both (number_operands_settled x && number_operands_settled y) (is_settled x) p.0 in
       let r = both (number_operands_settled x) (number_operands_settled y) q.0 in
       rw ((number_agrees store args words x within.0 r.0).exact q.1, (number_agrees store args words y within.1 r.1).exact p.1) refl
-  truth_agrees_with store args words (Greater' _ x _ y) within ok =
+  truth_agrees_with store args words (Greater x y) within ok =
       let p = both (number_operands_settled x && number_operands_settled y && is_settled x) (is_settled y) ok in
       let q = both (number_operands_settled x && number_operands_settled y) (is_settled x) p.0 in
       let r = both (number_operands_settled x) (number_operands_settled y) q.0 in
       rw ((number_agrees store args words x within.0 r.0).exact q.1, (number_agrees store args words y within.1 r.1).exact p.1) refl
-  truth_agrees_with store args words (GreaterOrEqual' _ x _ y) within ok =
+  truth_agrees_with store args words (GreaterOrEqual x y) within ok =
       let p = both (number_operands_settled x && number_operands_settled y && is_settled x) (is_settled y) ok in
       let q = both (number_operands_settled x && number_operands_settled y) (is_settled x) p.0 in
       let r = both (number_operands_settled x) (number_operands_settled y) q.0 in
       rw ((number_agrees store args words x within.0 r.0).exact q.1, (number_agrees store args words y within.1 r.1).exact p.1) refl
-  truth_agrees_with store args words (And' _ s _ t) within ok =
+  truth_agrees_with store args words (And s t) within ok =
       let p = both (truth_operands_settled s) (truth_operands_settled t) ok in
       rw (truth_agrees_with store args words s within.0 p.0, truth_agrees_with store args words t within.1 p.1) refl
-  truth_agrees_with store args words (Or' _ s _ t) within ok =
+  truth_agrees_with store args words (Or s t) within ok =
       let p = both (truth_operands_settled s) (truth_operands_settled t) ok in
       rw (truth_agrees_with store args words s within.0 p.0, truth_agrees_with store args words t within.1 p.1) refl
-  truth_agrees_with store args words (Not' _ t) within ok = ap not (truth_agrees_with store args words t within ok)
-  truth_agrees_with store args words (Select' _ c _ s _ t) within ok =
+  truth_agrees_with store args words (Not t) within ok = ap not (truth_agrees_with store args words t within ok)
+  truth_agrees_with store args words (Select c s t) within ok =
       let p = both (truth_operands_settled c && truth_operands_settled s) (truth_operands_settled t) ok in
       let q = both (truth_operands_settled c) (truth_operands_settled s) p.0 in
       rw (truth_agrees_with store args words c within.0 q.0, truth_agrees_with store args words s within.1 q.1, truth_agrees_with store args words t within.2 p.1) refl
   truth_agrees_with store args words (IsValid header) within ok = refl
-  truth_agrees_with store args words (OfNumber' _ x) within ok =
+  truth_agrees_with store args words (OfNumber x) within ok =
       let p = both (number_operands_settled x) (is_settled x) ok in
       rw ((number_agrees store args words x within p.0).exact p.1) refl
 

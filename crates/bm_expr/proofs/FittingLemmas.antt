@@ -4,10 +4,7 @@ use Rattle.std.proofs.lemmas.Bool.{ltb-true, lt-ltb, leb-true, le-leb}
 use Rattle.std.specs.Prelude.{◌&&◌, ◌↔◌, IsTrue, nat_lt}
 use Rattle.bm_expr.specs.declared.store.FieldPlace.{FieldPlace}
 use Rattle.bm_expr.specs.declared.fitting.Counts.{Counts}
-use Rattle.bm_expr.specs.declared.expression.Number.{Number}
-use Rattle.bm_expr.specs.declared.expression.Number.TheVariants.{Field, Literal, Datum, Add', Subtract', Multiply', ShiftLeft', ShiftRight', BitAnd', BitOr', BitXor', BitNot', Choose', OfTruth'}
-use Rattle.bm_expr.specs.declared.expression.Truth.{Truth}
-use Rattle.bm_expr.specs.declared.expression.Truth.TheVariants.{Constant, Equal', NotEqual', Less', LessOrEqual', Greater', GreaterOrEqual', And', Or', Not', Select', IsValid, OfNumber'}
+use Rattle.bm_expr.specs.Trees.{Number, Truth, Field, Literal, Datum, Add, Subtract, Multiply, ShiftLeft, ShiftRight, BitAnd, BitOr, BitXor, BitNot, Choose, OfTruth, Constant, Equal, NotEqual, Less, LessOrEqual, Greater, GreaterOrEqual, And, Or, Not, Select, IsValid, OfNumber}
 use Rattle.bm_expr.specs.Fits.{FieldFits, NumberFits, TruthFits, field_fits, number_fits, truth_fits, HasAtMost, FitsMore, TruthFitsMore}
 
 both_ways : {A B : Type 0} {a b : Bool} → IsTrue a ↔ A → IsTrue b ↔ B → IsTrue (a && b) ↔ (A × B)
@@ -32,32 +29,32 @@ mutual
   number_decided counts (Field place) = field_decided counts place
   number_decided counts (Literal n) = lt_decided n (2 ^ 128)
   number_decided counts (Datum i) = lt_decided i counts.args
-  number_decided counts (Add' _ x _ y) = both_ways (number_decided counts x) (number_decided counts y)
-  number_decided counts (Subtract' _ x _ y) = both_ways (number_decided counts x) (number_decided counts y)
-  number_decided counts (Multiply' _ x _ y) = both_ways (number_decided counts x) (number_decided counts y)
-  number_decided counts (ShiftLeft' _ x _ y) = both_ways (number_decided counts x) (number_decided counts y)
-  number_decided counts (ShiftRight' _ x _ y) = both_ways (number_decided counts x) (number_decided counts y)
-  number_decided counts (BitAnd' _ x _ y) = both_ways (number_decided counts x) (number_decided counts y)
-  number_decided counts (BitOr' _ x _ y) = both_ways (number_decided counts x) (number_decided counts y)
-  number_decided counts (BitXor' _ x _ y) = both_ways (number_decided counts x) (number_decided counts y)
-  number_decided counts (BitNot' _ x) = number_decided counts x
-  number_decided counts (Choose' _ c _ x _ y) = three_ways (truth_decided counts c) (number_decided counts x) (number_decided counts y)
-  number_decided counts (OfTruth' _ t) = truth_decided counts t
+  number_decided counts (Add x y) = both_ways (number_decided counts x) (number_decided counts y)
+  number_decided counts (Subtract x y) = both_ways (number_decided counts x) (number_decided counts y)
+  number_decided counts (Multiply x y) = both_ways (number_decided counts x) (number_decided counts y)
+  number_decided counts (ShiftLeft x y) = both_ways (number_decided counts x) (number_decided counts y)
+  number_decided counts (ShiftRight x y) = both_ways (number_decided counts x) (number_decided counts y)
+  number_decided counts (BitAnd x y) = both_ways (number_decided counts x) (number_decided counts y)
+  number_decided counts (BitOr x y) = both_ways (number_decided counts x) (number_decided counts y)
+  number_decided counts (BitXor x y) = both_ways (number_decided counts x) (number_decided counts y)
+  number_decided counts (BitNot x) = number_decided counts x
+  number_decided counts (Choose c x y) = three_ways (truth_decided counts c) (number_decided counts x) (number_decided counts y)
+  number_decided counts (OfTruth t) = truth_decided counts t
 
   pub truth_decided : (counts : Counts) (truth : Truth) → IsTrue (truth_fits counts truth) ↔ TruthFits counts truth
   truth_decided counts (Constant b) = (λ _. tt, λ _. refl)
-  truth_decided counts (Equal' _ x _ y) = both_ways (number_decided counts x) (number_decided counts y)
-  truth_decided counts (NotEqual' _ x _ y) = both_ways (number_decided counts x) (number_decided counts y)
-  truth_decided counts (Less' _ x _ y) = both_ways (number_decided counts x) (number_decided counts y)
-  truth_decided counts (LessOrEqual' _ x _ y) = both_ways (number_decided counts x) (number_decided counts y)
-  truth_decided counts (Greater' _ x _ y) = both_ways (number_decided counts x) (number_decided counts y)
-  truth_decided counts (GreaterOrEqual' _ x _ y) = both_ways (number_decided counts x) (number_decided counts y)
-  truth_decided counts (And' _ s _ t) = both_ways (truth_decided counts s) (truth_decided counts t)
-  truth_decided counts (Or' _ s _ t) = both_ways (truth_decided counts s) (truth_decided counts t)
-  truth_decided counts (Not' _ t) = truth_decided counts t
-  truth_decided counts (Select' _ c _ s _ t) = three_ways (truth_decided counts c) (truth_decided counts s) (truth_decided counts t)
+  truth_decided counts (Equal x y) = both_ways (number_decided counts x) (number_decided counts y)
+  truth_decided counts (NotEqual x y) = both_ways (number_decided counts x) (number_decided counts y)
+  truth_decided counts (Less x y) = both_ways (number_decided counts x) (number_decided counts y)
+  truth_decided counts (LessOrEqual x y) = both_ways (number_decided counts x) (number_decided counts y)
+  truth_decided counts (Greater x y) = both_ways (number_decided counts x) (number_decided counts y)
+  truth_decided counts (GreaterOrEqual x y) = both_ways (number_decided counts x) (number_decided counts y)
+  truth_decided counts (And s t) = both_ways (truth_decided counts s) (truth_decided counts t)
+  truth_decided counts (Or s t) = both_ways (truth_decided counts s) (truth_decided counts t)
+  truth_decided counts (Not t) = truth_decided counts t
+  truth_decided counts (Select c s t) = three_ways (truth_decided counts c) (truth_decided counts s) (truth_decided counts t)
   truth_decided counts (IsValid header) = lt_decided header counts.headers
-  truth_decided counts (OfNumber' _ x) = number_decided counts x
+  truth_decided counts (OfNumber x) = number_decided counts x
 
 field_more : (few more : Counts) → HasAtMost few more → (place : FieldPlace) → FieldFits few place → FieldFits more place
 field_more few more most place fits = record {
@@ -71,29 +68,29 @@ mutual
   fits_more few more most (Field place) fits = field_more few more most place fits
   fits_more few more most (Literal n) fits = fits
   fits_more few more most (Datum i) fits = let h : few.args ≤ more.args = most.args in omega (arith, h, fits)
-  fits_more few more most (Add' _ x _ y) fits = (fits_more few more most x fits.0, fits_more few more most y fits.1)
-  fits_more few more most (Subtract' _ x _ y) fits = (fits_more few more most x fits.0, fits_more few more most y fits.1)
-  fits_more few more most (Multiply' _ x _ y) fits = (fits_more few more most x fits.0, fits_more few more most y fits.1)
-  fits_more few more most (ShiftLeft' _ x _ y) fits = (fits_more few more most x fits.0, fits_more few more most y fits.1)
-  fits_more few more most (ShiftRight' _ x _ y) fits = (fits_more few more most x fits.0, fits_more few more most y fits.1)
-  fits_more few more most (BitAnd' _ x _ y) fits = (fits_more few more most x fits.0, fits_more few more most y fits.1)
-  fits_more few more most (BitOr' _ x _ y) fits = (fits_more few more most x fits.0, fits_more few more most y fits.1)
-  fits_more few more most (BitXor' _ x _ y) fits = (fits_more few more most x fits.0, fits_more few more most y fits.1)
-  fits_more few more most (BitNot' _ x) fits = fits_more few more most x fits
-  fits_more few more most (Choose' _ c _ x _ y) fits = (truth_fits_more few more most c fits.0, fits_more few more most x fits.1, fits_more few more most y fits.2)
-  fits_more few more most (OfTruth' _ t) fits = truth_fits_more few more most t fits
+  fits_more few more most (Add x y) fits = (fits_more few more most x fits.0, fits_more few more most y fits.1)
+  fits_more few more most (Subtract x y) fits = (fits_more few more most x fits.0, fits_more few more most y fits.1)
+  fits_more few more most (Multiply x y) fits = (fits_more few more most x fits.0, fits_more few more most y fits.1)
+  fits_more few more most (ShiftLeft x y) fits = (fits_more few more most x fits.0, fits_more few more most y fits.1)
+  fits_more few more most (ShiftRight x y) fits = (fits_more few more most x fits.0, fits_more few more most y fits.1)
+  fits_more few more most (BitAnd x y) fits = (fits_more few more most x fits.0, fits_more few more most y fits.1)
+  fits_more few more most (BitOr x y) fits = (fits_more few more most x fits.0, fits_more few more most y fits.1)
+  fits_more few more most (BitXor x y) fits = (fits_more few more most x fits.0, fits_more few more most y fits.1)
+  fits_more few more most (BitNot x) fits = fits_more few more most x fits
+  fits_more few more most (Choose c x y) fits = (truth_fits_more few more most c fits.0, fits_more few more most x fits.1, fits_more few more most y fits.2)
+  fits_more few more most (OfTruth t) fits = truth_fits_more few more most t fits
 
   pub truth_fits_more : TruthFitsMore
   truth_fits_more few more most (Constant b) fits = tt
-  truth_fits_more few more most (Equal' _ x _ y) fits = (fits_more few more most x fits.0, fits_more few more most y fits.1)
-  truth_fits_more few more most (NotEqual' _ x _ y) fits = (fits_more few more most x fits.0, fits_more few more most y fits.1)
-  truth_fits_more few more most (Less' _ x _ y) fits = (fits_more few more most x fits.0, fits_more few more most y fits.1)
-  truth_fits_more few more most (LessOrEqual' _ x _ y) fits = (fits_more few more most x fits.0, fits_more few more most y fits.1)
-  truth_fits_more few more most (Greater' _ x _ y) fits = (fits_more few more most x fits.0, fits_more few more most y fits.1)
-  truth_fits_more few more most (GreaterOrEqual' _ x _ y) fits = (fits_more few more most x fits.0, fits_more few more most y fits.1)
-  truth_fits_more few more most (And' _ s _ t) fits = (truth_fits_more few more most s fits.0, truth_fits_more few more most t fits.1)
-  truth_fits_more few more most (Or' _ s _ t) fits = (truth_fits_more few more most s fits.0, truth_fits_more few more most t fits.1)
-  truth_fits_more few more most (Not' _ t) fits = truth_fits_more few more most t fits
-  truth_fits_more few more most (Select' _ c _ s _ t) fits = (truth_fits_more few more most c fits.0, truth_fits_more few more most s fits.1, truth_fits_more few more most t fits.2)
+  truth_fits_more few more most (Equal x y) fits = (fits_more few more most x fits.0, fits_more few more most y fits.1)
+  truth_fits_more few more most (NotEqual x y) fits = (fits_more few more most x fits.0, fits_more few more most y fits.1)
+  truth_fits_more few more most (Less x y) fits = (fits_more few more most x fits.0, fits_more few more most y fits.1)
+  truth_fits_more few more most (LessOrEqual x y) fits = (fits_more few more most x fits.0, fits_more few more most y fits.1)
+  truth_fits_more few more most (Greater x y) fits = (fits_more few more most x fits.0, fits_more few more most y fits.1)
+  truth_fits_more few more most (GreaterOrEqual x y) fits = (fits_more few more most x fits.0, fits_more few more most y fits.1)
+  truth_fits_more few more most (And s t) fits = (truth_fits_more few more most s fits.0, truth_fits_more few more most t fits.1)
+  truth_fits_more few more most (Or s t) fits = (truth_fits_more few more most s fits.0, truth_fits_more few more most t fits.1)
+  truth_fits_more few more most (Not t) fits = truth_fits_more few more most t fits
+  truth_fits_more few more most (Select c s t) fits = (truth_fits_more few more most c fits.0, truth_fits_more few more most s fits.1, truth_fits_more few more most t fits.2)
   truth_fits_more few more most (IsValid header) fits = let h : few.headers ≤ more.headers = most.headers in omega (arith, h, fits)
-  truth_fits_more few more most (OfNumber' _ x) fits = fits_more few more most x fits
+  truth_fits_more few more most (OfNumber x) fits = fits_more few more most x fits

@@ -2,10 +2,7 @@
 use Rattle.std.specs.Prelude.{Bool, true, ◌&&◌, ◌^◌, ◌<◌, ◌≤◌, nat_lt, nat_le}
 use Rattle.bm_expr.specs.declared.store.FieldPlace.{FieldPlace}
 use Rattle.bm_expr.specs.declared.fitting.Counts.{Counts}
-use Rattle.bm_expr.specs.declared.expression.Number.{Number}
-use Rattle.bm_expr.specs.declared.expression.Number.TheVariants.{Field, Literal, Datum, Add', Subtract', Multiply', ShiftLeft', ShiftRight', BitAnd', BitOr', BitXor', BitNot', Choose', OfTruth'}
-use Rattle.bm_expr.specs.declared.expression.Truth.{Truth}
-use Rattle.bm_expr.specs.declared.expression.Truth.TheVariants.{Constant, Equal', NotEqual', Less', LessOrEqual', Greater', GreaterOrEqual', And', Or', Not', Select', IsValid, OfNumber'}
+use Rattle.bm_expr.specs.Trees.{Number, Truth, Field, Literal, Datum, Add, Subtract, Multiply, ShiftLeft, ShiftRight, BitAnd, BitOr, BitXor, BitNot, Choose, OfTruth, Constant, Equal, NotEqual, Less, LessOrEqual, Greater, GreaterOrEqual, And, Or, Not, Select, IsValid, OfNumber}
 
 -- a field and its header are among these counts, and its width is one of at most 128 bits
 pub record FieldFits (counts : Counts) (place : FieldPlace) : Type 0 where
@@ -21,33 +18,33 @@ abbrev mutual
   NumberFits counts (Field place) = FieldFits counts place
   NumberFits counts (Literal n) = n < 2 ^ 128
   NumberFits counts (Datum i) = i < counts.args
-  NumberFits counts (Add' _ x _ y) = NumberFits counts x × NumberFits counts y
-  NumberFits counts (Subtract' _ x _ y) = NumberFits counts x × NumberFits counts y
-  NumberFits counts (Multiply' _ x _ y) = NumberFits counts x × NumberFits counts y
-  NumberFits counts (ShiftLeft' _ x _ y) = NumberFits counts x × NumberFits counts y
-  NumberFits counts (ShiftRight' _ x _ y) = NumberFits counts x × NumberFits counts y
-  NumberFits counts (BitAnd' _ x _ y) = NumberFits counts x × NumberFits counts y
-  NumberFits counts (BitOr' _ x _ y) = NumberFits counts x × NumberFits counts y
-  NumberFits counts (BitXor' _ x _ y) = NumberFits counts x × NumberFits counts y
-  NumberFits counts (BitNot' _ x) = NumberFits counts x
-  NumberFits counts (Choose' _ c _ x _ y) = TruthFits counts c × NumberFits counts x × NumberFits counts y
-  NumberFits counts (OfTruth' _ t) = TruthFits counts t
+  NumberFits counts (Add x y) = NumberFits counts x × NumberFits counts y
+  NumberFits counts (Subtract x y) = NumberFits counts x × NumberFits counts y
+  NumberFits counts (Multiply x y) = NumberFits counts x × NumberFits counts y
+  NumberFits counts (ShiftLeft x y) = NumberFits counts x × NumberFits counts y
+  NumberFits counts (ShiftRight x y) = NumberFits counts x × NumberFits counts y
+  NumberFits counts (BitAnd x y) = NumberFits counts x × NumberFits counts y
+  NumberFits counts (BitOr x y) = NumberFits counts x × NumberFits counts y
+  NumberFits counts (BitXor x y) = NumberFits counts x × NumberFits counts y
+  NumberFits counts (BitNot x) = NumberFits counts x
+  NumberFits counts (Choose c x y) = TruthFits counts c × NumberFits counts x × NumberFits counts y
+  NumberFits counts (OfTruth t) = TruthFits counts t
 
   -- the same for an expression that is a truth value
   pub TruthFits : Counts → Truth → Type 0
   TruthFits counts (Constant b) = Unit
-  TruthFits counts (Equal' _ x _ y) = NumberFits counts x × NumberFits counts y
-  TruthFits counts (NotEqual' _ x _ y) = NumberFits counts x × NumberFits counts y
-  TruthFits counts (Less' _ x _ y) = NumberFits counts x × NumberFits counts y
-  TruthFits counts (LessOrEqual' _ x _ y) = NumberFits counts x × NumberFits counts y
-  TruthFits counts (Greater' _ x _ y) = NumberFits counts x × NumberFits counts y
-  TruthFits counts (GreaterOrEqual' _ x _ y) = NumberFits counts x × NumberFits counts y
-  TruthFits counts (And' _ s _ t) = TruthFits counts s × TruthFits counts t
-  TruthFits counts (Or' _ s _ t) = TruthFits counts s × TruthFits counts t
-  TruthFits counts (Not' _ t) = TruthFits counts t
-  TruthFits counts (Select' _ c _ s _ t) = TruthFits counts c × TruthFits counts s × TruthFits counts t
+  TruthFits counts (Equal x y) = NumberFits counts x × NumberFits counts y
+  TruthFits counts (NotEqual x y) = NumberFits counts x × NumberFits counts y
+  TruthFits counts (Less x y) = NumberFits counts x × NumberFits counts y
+  TruthFits counts (LessOrEqual x y) = NumberFits counts x × NumberFits counts y
+  TruthFits counts (Greater x y) = NumberFits counts x × NumberFits counts y
+  TruthFits counts (GreaterOrEqual x y) = NumberFits counts x × NumberFits counts y
+  TruthFits counts (And s t) = TruthFits counts s × TruthFits counts t
+  TruthFits counts (Or s t) = TruthFits counts s × TruthFits counts t
+  TruthFits counts (Not t) = TruthFits counts t
+  TruthFits counts (Select c s t) = TruthFits counts c × TruthFits counts s × TruthFits counts t
   TruthFits counts (IsValid header) = header < counts.headers
-  TruthFits counts (OfNumber' _ x) = NumberFits counts x
+  TruthFits counts (OfNumber x) = NumberFits counts x
 
 -- whether a field fits these counts
 abbrev pub field_fits : Counts → FieldPlace → Bool
@@ -60,33 +57,33 @@ abbrev mutual
   number_fits counts (Field place) = field_fits counts place
   number_fits counts (Literal n) = nat_lt n (2 ^ 128)
   number_fits counts (Datum i) = nat_lt i counts.args
-  number_fits counts (Add' _ x _ y) = number_fits counts x && number_fits counts y
-  number_fits counts (Subtract' _ x _ y) = number_fits counts x && number_fits counts y
-  number_fits counts (Multiply' _ x _ y) = number_fits counts x && number_fits counts y
-  number_fits counts (ShiftLeft' _ x _ y) = number_fits counts x && number_fits counts y
-  number_fits counts (ShiftRight' _ x _ y) = number_fits counts x && number_fits counts y
-  number_fits counts (BitAnd' _ x _ y) = number_fits counts x && number_fits counts y
-  number_fits counts (BitOr' _ x _ y) = number_fits counts x && number_fits counts y
-  number_fits counts (BitXor' _ x _ y) = number_fits counts x && number_fits counts y
-  number_fits counts (BitNot' _ x) = number_fits counts x
-  number_fits counts (Choose' _ c _ x _ y) = truth_fits counts c && number_fits counts x && number_fits counts y
-  number_fits counts (OfTruth' _ t) = truth_fits counts t
+  number_fits counts (Add x y) = number_fits counts x && number_fits counts y
+  number_fits counts (Subtract x y) = number_fits counts x && number_fits counts y
+  number_fits counts (Multiply x y) = number_fits counts x && number_fits counts y
+  number_fits counts (ShiftLeft x y) = number_fits counts x && number_fits counts y
+  number_fits counts (ShiftRight x y) = number_fits counts x && number_fits counts y
+  number_fits counts (BitAnd x y) = number_fits counts x && number_fits counts y
+  number_fits counts (BitOr x y) = number_fits counts x && number_fits counts y
+  number_fits counts (BitXor x y) = number_fits counts x && number_fits counts y
+  number_fits counts (BitNot x) = number_fits counts x
+  number_fits counts (Choose c x y) = truth_fits counts c && number_fits counts x && number_fits counts y
+  number_fits counts (OfTruth t) = truth_fits counts t
 
   -- the same for an expression that is a truth value
   pub truth_fits : Counts → Truth → Bool
   truth_fits counts (Constant b) = true
-  truth_fits counts (Equal' _ x _ y) = number_fits counts x && number_fits counts y
-  truth_fits counts (NotEqual' _ x _ y) = number_fits counts x && number_fits counts y
-  truth_fits counts (Less' _ x _ y) = number_fits counts x && number_fits counts y
-  truth_fits counts (LessOrEqual' _ x _ y) = number_fits counts x && number_fits counts y
-  truth_fits counts (Greater' _ x _ y) = number_fits counts x && number_fits counts y
-  truth_fits counts (GreaterOrEqual' _ x _ y) = number_fits counts x && number_fits counts y
-  truth_fits counts (And' _ s _ t) = truth_fits counts s && truth_fits counts t
-  truth_fits counts (Or' _ s _ t) = truth_fits counts s && truth_fits counts t
-  truth_fits counts (Not' _ t) = truth_fits counts t
-  truth_fits counts (Select' _ c _ s _ t) = truth_fits counts c && truth_fits counts s && truth_fits counts t
+  truth_fits counts (Equal x y) = number_fits counts x && number_fits counts y
+  truth_fits counts (NotEqual x y) = number_fits counts x && number_fits counts y
+  truth_fits counts (Less x y) = number_fits counts x && number_fits counts y
+  truth_fits counts (LessOrEqual x y) = number_fits counts x && number_fits counts y
+  truth_fits counts (Greater x y) = number_fits counts x && number_fits counts y
+  truth_fits counts (GreaterOrEqual x y) = number_fits counts x && number_fits counts y
+  truth_fits counts (And s t) = truth_fits counts s && truth_fits counts t
+  truth_fits counts (Or s t) = truth_fits counts s && truth_fits counts t
+  truth_fits counts (Not t) = truth_fits counts t
+  truth_fits counts (Select c s t) = truth_fits counts c && truth_fits counts s && truth_fits counts t
   truth_fits counts (IsValid header) = nat_lt header counts.headers
-  truth_fits counts (OfNumber' _ x) = number_fits counts x
+  truth_fits counts (OfNumber x) = number_fits counts x
 
 -- one program has no more fields, headers and data than another
 pub record HasAtMost (few more : Counts) : Type 0 where

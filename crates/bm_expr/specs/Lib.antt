@@ -1,4 +1,8 @@
 pub mod Store
+pub mod Trees
+pub mod Nodes
+pub mod TreeCode
+pub mod TreesFall
 pub mod Fits
 pub mod Meaning
 pub mod Settled

@@ -1,9 +1,6 @@
 -- Expressions over whole numbers, which no operator cuts.
 use Rattle.std.specs.Prelude.{◌≡◌, ℕ, Bool, true, false, not, ◌&&◌, ◌||◌, if◌then◌else◌, List, slice_index, All, ◌-◌, ◌/◌, ◌%◌, ◌^◌, ◌<◌, bit_and, bit_or, bit_xor, ◌==◌, ℤ, pos, negsuc, ◌+ℤ◌, ◌-ℤ◌, ◌*ℤ◌, nat_abs, int_lt, int_le}
-use Rattle.bm_expr.specs.declared.expression.Number.{Number}
-use Rattle.bm_expr.specs.declared.expression.Number.TheVariants.{Field, Literal, Datum, Add', Subtract', Multiply', ShiftLeft', ShiftRight', BitAnd', BitOr', BitXor', BitNot', Choose', OfTruth'}
-use Rattle.bm_expr.specs.declared.expression.Truth.{Truth}
-use Rattle.bm_expr.specs.declared.expression.Truth.TheVariants.{Constant, Equal', NotEqual', Less', LessOrEqual', Greater', GreaterOrEqual', And', Or', Not', Select', IsValid, OfNumber'}
+use Rattle.bm_expr.specs.Trees.{Number, Truth, Field, Literal, Datum, Add, Subtract, Multiply, ShiftLeft, ShiftRight, BitAnd, BitOr, BitXor, BitNot, Choose, OfTruth, Constant, Equal, NotEqual, Less, LessOrEqual, Greater, GreaterOrEqual, And, Or, Not, Select, IsValid, OfNumber}
 use Rattle.bm_expr.specs.Store.{Contents, header_valid, field_read}
 use Rattle.bm_expr.specs.Meaning.{number_value, truth_value, NumberInStore, TruthInStore}
 use Rattle.bm_expr.specs.Settled.{is_settled, number_operands_settled, truth_operands_settled}
@@ -54,33 +51,33 @@ abbrev mutual
   whole_number store args (Field place) = pos (field_read store place)
   whole_number store args (Literal n) = pos n
   whole_number store args (Datum i) = pos (slice_index args i)
-  whole_number store args (Add' _ x _ y) = whole_number store args x +ℤ whole_number store args y
-  whole_number store args (Subtract' _ x _ y) = whole_number store args x -ℤ whole_number store args y
-  whole_number store args (Multiply' _ x _ y) = whole_number store args x *ℤ whole_number store args y
-  whole_number store args (ShiftLeft' _ x _ y) = whole_number store args x *ℤ pos (2 ^ nat_abs (whole_number store args y))
-  whole_number store args (ShiftRight' _ x _ y) = int_right (whole_number store args x) (nat_abs (whole_number store args y))
-  whole_number store args (BitAnd' _ x _ y) = int_and (whole_number store args x) (whole_number store args y)
-  whole_number store args (BitOr' _ x _ y) = int_or (whole_number store args x) (whole_number store args y)
-  whole_number store args (BitXor' _ x _ y) = int_xor (whole_number store args x) (whole_number store args y)
-  whole_number store args (BitNot' _ x) = int_not (whole_number store args x)
-  whole_number store args (Choose' _ c _ x _ y) = if whole_truth store args c then whole_number store args x else whole_number store args y
-  whole_number store args (OfTruth' _ t) = if whole_truth store args t then pos 1 else pos 0
+  whole_number store args (Add x y) = whole_number store args x +ℤ whole_number store args y
+  whole_number store args (Subtract x y) = whole_number store args x -ℤ whole_number store args y
+  whole_number store args (Multiply x y) = whole_number store args x *ℤ whole_number store args y
+  whole_number store args (ShiftLeft x y) = whole_number store args x *ℤ pos (2 ^ nat_abs (whole_number store args y))
+  whole_number store args (ShiftRight x y) = int_right (whole_number store args x) (nat_abs (whole_number store args y))
+  whole_number store args (BitAnd x y) = int_and (whole_number store args x) (whole_number store args y)
+  whole_number store args (BitOr x y) = int_or (whole_number store args x) (whole_number store args y)
+  whole_number store args (BitXor x y) = int_xor (whole_number store args x) (whole_number store args y)
+  whole_number store args (BitNot x) = int_not (whole_number store args x)
+  whole_number store args (Choose c x y) = if whole_truth store args c then whole_number store args x else whole_number store args y
+  whole_number store args (OfTruth t) = if whole_truth store args t then pos 1 else pos 0
 
   -- the value of a truth value over whole numbers
   pub whole_truth : Contents → List ℕ → Truth → Bool
   whole_truth store args (Constant b) = b
-  whole_truth store args (Equal' _ x _ y) = int_same (whole_number store args x) (whole_number store args y)
-  whole_truth store args (NotEqual' _ x _ y) = not (int_same (whole_number store args x) (whole_number store args y))
-  whole_truth store args (Less' _ x _ y) = int_lt (whole_number store args x) (whole_number store args y)
-  whole_truth store args (LessOrEqual' _ x _ y) = int_le (whole_number store args x) (whole_number store args y)
-  whole_truth store args (Greater' _ x _ y) = int_lt (whole_number store args y) (whole_number store args x)
-  whole_truth store args (GreaterOrEqual' _ x _ y) = int_le (whole_number store args y) (whole_number store args x)
-  whole_truth store args (And' _ s _ t) = whole_truth store args s && whole_truth store args t
-  whole_truth store args (Or' _ s _ t) = whole_truth store args s || whole_truth store args t
-  whole_truth store args (Not' _ t) = not (whole_truth store args t)
-  whole_truth store args (Select' _ c _ s _ t) = if whole_truth store args c then whole_truth store args s else whole_truth store args t
+  whole_truth store args (Equal x y) = int_same (whole_number store args x) (whole_number store args y)
+  whole_truth store args (NotEqual x y) = not (int_same (whole_number store args x) (whole_number store args y))
+  whole_truth store args (Less x y) = int_lt (whole_number store args x) (whole_number store args y)
+  whole_truth store args (LessOrEqual x y) = int_le (whole_number store args x) (whole_number store args y)
+  whole_truth store args (Greater x y) = int_lt (whole_number store args y) (whole_number store args x)
+  whole_truth store args (GreaterOrEqual x y) = int_le (whole_number store args y) (whole_number store args x)
+  whole_truth store args (And s t) = whole_truth store args s && whole_truth store args t
+  whole_truth store args (Or s t) = whole_truth store args s || whole_truth store args t
+  whole_truth store args (Not t) = not (whole_truth store args t)
+  whole_truth store args (Select c s t) = if whole_truth store args c then whole_truth store args s else whole_truth store args t
   whole_truth store args (IsValid header) = header_valid store header
-  whole_truth store args (OfNumber' _ x) = not (int_same (whole_number store args x) (pos 0))
+  whole_truth store args (OfNumber x) = not (int_same (whole_number store args x) (pos 0))
 
 -- The numbers of fields and data have 128 bits.
 pub record HasWords (store : Contents) (args : List ℕ) : Type 0 where

@@ -1,11 +1,21 @@
 //! Expressions: numbers modulo 2^128, and truth values.
+ghost use Rattle.std.specs.Prelude.{◌≡◌};
+ghost use Rattle.bm_expr.specs.Nodes.{number_of_node, truth_of_node};
 
 use crate::store::FieldPlace;
+use std::marker::Model;
 
-/// An expression whose value is a number, with a variant for each operator.
+/// An expression whose value is a number. Contracts see it as a `Number` of specs/Trees.antt.
 #[cycle(expression)]
 #[derive(Drop)]
-pub enum Number {
+pub struct Number {
+    pub node: NumberNode,
+}
+
+/// The root of a number, with a variant for each operator.
+#[cycle(expression)]
+#[derive(Drop)]
+pub enum NumberNode {
     /// A field, which is 0 where its header is invalid.
     Field(FieldPlace),
     Literal(u128),
@@ -35,10 +45,17 @@ pub enum Number {
     OfTruth(Box<Truth>),
 }
 
-/// An expression whose value is a truth value, with a variant for each operator.
+/// An expression whose value is a truth value. Contracts see it as a `Truth` of specs/Trees.antt.
 #[cycle(expression)]
 #[derive(Drop)]
-pub enum Truth {
+pub struct Truth {
+    pub node: TruthNode,
+}
+
+/// The root of a truth value, with a variant for each operator.
+#[cycle(expression)]
+#[derive(Drop)]
+pub enum TruthNode {
     Constant(bool),
     /// `==`
     Equal(Box<Number>, Box<Number>),
@@ -64,4 +81,64 @@ pub enum Truth {
     IsValid(usize),
     /// `d2b`: whether the number is not 0.
     OfNumber(Box<Number>),
+}
+
+impl Model for Number {
+    ghost use Rattle.bm_expr.specs.Trees as trees;
+    ghost use Rattle.bm_expr.specs.TreeCode.{number_code};
+
+    ghost Value = { trees.Number };
+
+    ghost coded = { number_code };
+
+    ghost use Rattle.bm_expr.specs.Nodes.{number_of_node};
+
+    ghost view = { λ number. number_of_node number.node };
+
+    ghost use Rattle.bm_expr.specs.Trees.{number_height};
+
+    ghost size = { number_height };
+
+    ghost use Rattle.bm_expr.specs.TreesFall.{number_falls};
+
+    ghost size_decreases = { λ number h. number_falls number.node };
+}
+
+impl Number {
+    /// The number of which a node is the root.
+    pub fn new(node: NumberNode) -> Number
+        ensures { result ≡ number_of_node node }
+    {
+        Number { node }
+    }
+}
+
+impl Model for Truth {
+    ghost use Rattle.bm_expr.specs.Trees as trees;
+    ghost use Rattle.bm_expr.specs.TreeCode.{truth_code};
+
+    ghost Value = { trees.Truth };
+
+    ghost coded = { truth_code };
+
+    ghost use Rattle.bm_expr.specs.Nodes.{truth_of_node};
+
+    ghost view = { λ truth. truth_of_node truth.node };
+
+    ghost use Rattle.bm_expr.specs.Trees.{truth_height};
+
+    ghost size = { truth_height };
+
+    ghost use Rattle.bm_expr.specs.TreesFall.{truth_falls};
+
+    ghost size_decreases = { λ truth h. truth_falls truth.node };
+}
+
+impl Truth {
+    /// The truth value of which a node is the root.
+    pub fn new(node: TruthNode) -> Truth
+        ensures { result ≡ truth_of_node node }
+    {
+        Truth { node }
+    }
 }

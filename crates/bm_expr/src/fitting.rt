@@ -3,7 +3,7 @@ ghost use Rattle.std.specs.Prelude.{◌≡◌, ◌↔◌, IsTrue};
 ghost use Rattle.bm_expr.specs.Fits as spec;
 ghost use Rattle.bm_expr.specs.Fits.{NumberFits, TruthFits};
 
-use crate::expression::{Number, Truth};
+use crate::expression::{Number, NumberNode, Truth, TruthNode};
 use crate::store::FieldPlace;
 
 /// How many fields and headers a program has, and how many data an action.
@@ -24,23 +24,23 @@ fn field_fits(place: FieldPlace, counts: &Counts) -> bool
 fn number_fits(number: &Number, counts: &Counts) -> bool
     ensures { result ≡ spec.number_fits counts.now number.now }
 {
-    match number {
-        Number::Field(place) => field_fits(*place, counts),
-        Number::Literal(literal) => *literal <= u128::MAX,
-        Number::Datum(index) => *index < counts.args,
-        Number::Add(a, b) => number_fits(a, counts) && number_fits(b, counts),
-        Number::Subtract(a, b) => number_fits(a, counts) && number_fits(b, counts),
-        Number::Multiply(a, b) => number_fits(a, counts) && number_fits(b, counts),
-        Number::ShiftLeft(a, b) => number_fits(a, counts) && number_fits(b, counts),
-        Number::ShiftRight(a, b) => number_fits(a, counts) && number_fits(b, counts),
-        Number::BitAnd(a, b) => number_fits(a, counts) && number_fits(b, counts),
-        Number::BitOr(a, b) => number_fits(a, counts) && number_fits(b, counts),
-        Number::BitXor(a, b) => number_fits(a, counts) && number_fits(b, counts),
-        Number::BitNot(a) => number_fits(a, counts),
-        Number::Choose(condition, yes, no) => truth_fits(condition, counts)
+    match &number.node {
+        NumberNode::Field(place) => field_fits(*place, counts),
+        NumberNode::Literal(literal) => *literal <= u128::MAX,
+        NumberNode::Datum(index) => *index < counts.args,
+        NumberNode::Add(a, b) => number_fits(a, counts) && number_fits(b, counts),
+        NumberNode::Subtract(a, b) => number_fits(a, counts) && number_fits(b, counts),
+        NumberNode::Multiply(a, b) => number_fits(a, counts) && number_fits(b, counts),
+        NumberNode::ShiftLeft(a, b) => number_fits(a, counts) && number_fits(b, counts),
+        NumberNode::ShiftRight(a, b) => number_fits(a, counts) && number_fits(b, counts),
+        NumberNode::BitAnd(a, b) => number_fits(a, counts) && number_fits(b, counts),
+        NumberNode::BitOr(a, b) => number_fits(a, counts) && number_fits(b, counts),
+        NumberNode::BitXor(a, b) => number_fits(a, counts) && number_fits(b, counts),
+        NumberNode::BitNot(a) => number_fits(a, counts),
+        NumberNode::Choose(condition, yes, no) => truth_fits(condition, counts)
             && number_fits(yes, counts)
             && number_fits(no, counts),
-        Number::OfTruth(a) => truth_fits(a, counts),
+        NumberNode::OfTruth(a) => truth_fits(a, counts),
     }
 }
 
@@ -48,22 +48,22 @@ fn number_fits(number: &Number, counts: &Counts) -> bool
 fn truth_fits(truth: &Truth, counts: &Counts) -> bool
     ensures { result ≡ spec.truth_fits counts.now truth.now }
 {
-    match truth {
-        Truth::Constant(_) => true,
-        Truth::Equal(a, b) => number_fits(a, counts) && number_fits(b, counts),
-        Truth::NotEqual(a, b) => number_fits(a, counts) && number_fits(b, counts),
-        Truth::Less(a, b) => number_fits(a, counts) && number_fits(b, counts),
-        Truth::LessOrEqual(a, b) => number_fits(a, counts) && number_fits(b, counts),
-        Truth::Greater(a, b) => number_fits(a, counts) && number_fits(b, counts),
-        Truth::GreaterOrEqual(a, b) => number_fits(a, counts) && number_fits(b, counts),
-        Truth::And(a, b) => truth_fits(a, counts) && truth_fits(b, counts),
-        Truth::Or(a, b) => truth_fits(a, counts) && truth_fits(b, counts),
-        Truth::Not(a) => truth_fits(a, counts),
-        Truth::Select(condition, yes, no) => truth_fits(condition, counts)
+    match &truth.node {
+        TruthNode::Constant(_) => true,
+        TruthNode::Equal(a, b) => number_fits(a, counts) && number_fits(b, counts),
+        TruthNode::NotEqual(a, b) => number_fits(a, counts) && number_fits(b, counts),
+        TruthNode::Less(a, b) => number_fits(a, counts) && number_fits(b, counts),
+        TruthNode::LessOrEqual(a, b) => number_fits(a, counts) && number_fits(b, counts),
+        TruthNode::Greater(a, b) => number_fits(a, counts) && number_fits(b, counts),
+        TruthNode::GreaterOrEqual(a, b) => number_fits(a, counts) && number_fits(b, counts),
+        TruthNode::And(a, b) => truth_fits(a, counts) && truth_fits(b, counts),
+        TruthNode::Or(a, b) => truth_fits(a, counts) && truth_fits(b, counts),
+        TruthNode::Not(a) => truth_fits(a, counts),
+        TruthNode::Select(condition, yes, no) => truth_fits(condition, counts)
             && truth_fits(yes, counts)
             && truth_fits(no, counts),
-        Truth::IsValid(header) => *header < counts.headers,
-        Truth::OfNumber(a) => number_fits(a, counts),
+        TruthNode::IsValid(header) => *header < counts.headers,
+        TruthNode::OfNumber(a) => number_fits(a, counts),
     }
 }
 

@@ -9,7 +9,7 @@ mod operators;
 mod settling;
 mod store;
 
-pub use expression::{Number, Truth};
+pub use expression::{Number, NumberNode, Truth, TruthNode};
 pub use fitting::{Counts, fits, fits_truth};
 pub use meaning::{truth, value};
 pub use operators::cut;

@@ -2,7 +2,7 @@
 ghost use Rattle.std.specs.Prelude.{◌≡◌};
 ghost use Rattle.bm_expr.specs.Meaning.{number_value, truth_value, NumberInStore, TruthInStore};
 
-use crate::expression::{Number, Truth};
+use crate::expression::{Number, NumberNode, Truth, TruthNode};
 use crate::operators::{shifted_left, shifted_right};
 use crate::store::Store;
 
@@ -13,27 +13,30 @@ pub fn value(number: &Number, store: &Store, args: &[u128]) -> u128
     requires in_store { NumberInStore store.now args.now number.now }
     ensures { result ≡ number_value store.now args.now number.now }
 {
-    match number {
-        Number::Field(place) => store.field(*place),
-        Number::Literal(literal) => *literal,
-        Number::Datum(index) => args[*index],
-        Number::Add(a, b) => value(a, store, args).wrapping_add(value(b, store, args)),
-        Number::Subtract(a, b) => value(a, store, args).wrapping_sub(value(b, store, args)),
-        Number::Multiply(a, b) => value(a, store, args).wrapping_mul(value(b, store, args)),
-        Number::ShiftLeft(a, by) => shifted_left(value(a, store, args), value(by, store, args)),
-        Number::ShiftRight(a, by) => shifted_right(value(a, store, args), value(by, store, args)),
-        Number::BitAnd(a, b) => value(a, store, args) & value(b, store, args),
-        Number::BitOr(a, b) => value(a, store, args) | value(b, store, args),
-        Number::BitXor(a, b) => value(a, store, args) ^ value(b, store, args),
-        Number::BitNot(a) => !value(a, store, args),
-        Number::Choose(condition, yes, no) => {
+    match &number.node {
+        NumberNode::Field(place) => store.field(*place),
+        NumberNode::Literal(literal) => *literal,
+        NumberNode::Datum(index) => args[*index],
+        NumberNode::Add(a, b) => value(a, store, args).wrapping_add(value(b, store, args)),
+        NumberNode::Subtract(a, b) => value(a, store, args).wrapping_sub(value(b, store, args)),
+        NumberNode::Multiply(a, b) => value(a, store, args).wrapping_mul(value(b, store, args)),
+        NumberNode::ShiftLeft(a, by) => shifted_left(value(a, store, args), value(by, store, args)),
+        NumberNode::ShiftRight(a, by) => shifted_right(
+            value(a, store, args),
+            value(by, store, args),
+        ),
+        NumberNode::BitAnd(a, b) => value(a, store, args) & value(b, store, args),
+        NumberNode::BitOr(a, b) => value(a, store, args) | value(b, store, args),
+        NumberNode::BitXor(a, b) => value(a, store, args) ^ value(b, store, args),
+        NumberNode::BitNot(a) => !value(a, store, args),
+        NumberNode::Choose(condition, yes, no) => {
             if truth(condition, store, args) {
                 value(yes, store, args)
             } else {
                 value(no, store, args)
             }
         }
-        Number::OfTruth(a) => u128::from(truth(a, store, args)),
+        NumberNode::OfTruth(a) => u128::from(truth(a, store, args)),
     }
 }
 
@@ -43,25 +46,25 @@ pub fn truth(truth_of: &Truth, store: &Store, args: &[u128]) -> bool
     requires in_store { TruthInStore store.now args.now truth_of.now }
     ensures { result ≡ truth_value store.now args.now truth_of.now }
 {
-    match truth_of {
-        Truth::Constant(constant) => *constant,
-        Truth::Equal(a, b) => value(a, store, args) == value(b, store, args),
-        Truth::NotEqual(a, b) => value(a, store, args) != value(b, store, args),
-        Truth::Less(a, b) => value(a, store, args) < value(b, store, args),
-        Truth::LessOrEqual(a, b) => value(a, store, args) <= value(b, store, args),
-        Truth::Greater(a, b) => value(a, store, args) > value(b, store, args),
-        Truth::GreaterOrEqual(a, b) => value(a, store, args) >= value(b, store, args),
-        Truth::And(a, b) => truth(a, store, args) && truth(b, store, args),
-        Truth::Or(a, b) => truth(a, store, args) || truth(b, store, args),
-        Truth::Not(a) => !truth(a, store, args),
-        Truth::Select(condition, yes, no) => {
+    match &truth_of.node {
+        TruthNode::Constant(constant) => *constant,
+        TruthNode::Equal(a, b) => value(a, store, args) == value(b, store, args),
+        TruthNode::NotEqual(a, b) => value(a, store, args) != value(b, store, args),
+        TruthNode::Less(a, b) => value(a, store, args) < value(b, store, args),
+        TruthNode::LessOrEqual(a, b) => value(a, store, args) <= value(b, store, args),
+        TruthNode::Greater(a, b) => value(a, store, args) > value(b, store, args),
+        TruthNode::GreaterOrEqual(a, b) => value(a, store, args) >= value(b, store, args),
+        TruthNode::And(a, b) => truth(a, store, args) && truth(b, store, args),
+        TruthNode::Or(a, b) => truth(a, store, args) || truth(b, store, args),
+        TruthNode::Not(a) => !truth(a, store, args),
+        TruthNode::Select(condition, yes, no) => {
             if truth(condition, store, args) {
                 truth(yes, store, args)
             } else {
                 truth(no, store, args)
             }
         }
-        Truth::IsValid(header) => store.is_valid(*header),
-        Truth::OfNumber(a) => value(a, store, args) != 0,
+        TruthNode::IsValid(header) => store.is_valid(*header),
+        TruthNode::OfNumber(a) => value(a, store, args) != 0,
     }
 }

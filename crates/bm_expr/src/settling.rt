@@ -2,27 +2,30 @@
 ghost use Rattle.std.specs.Prelude.{◌≡◌};
 ghost use Rattle.bm_expr.specs.Settled as spec;
 
-use crate::expression::{Number, Truth};
+use crate::expression::{Number, NumberNode, Truth, TruthNode};
 
 fn is_literal(number: &Number) -> bool
     ensures { result ≡ spec.is_literal number.now }
 {
-    matches!(number, Number::Literal(_))
+    matches!(&number.node, NumberNode::Literal(_))
 }
 
 /// Whether a number is settled: cutting it to 128 bits changes nothing.
 pub fn is_settled(number: &Number) -> bool
     ensures { result ≡ spec.is_settled number.now }
 {
-    match number {
-        Number::Field(_) | Number::Literal(_) | Number::Datum(_) | Number::OfTruth(_) => true,
-        Number::ShiftRight(left, _) => is_settled(left),
-        Number::BitAnd(left, right) => {
+    match &number.node {
+        NumberNode::Field(_)
+        | NumberNode::Literal(_)
+        | NumberNode::Datum(_)
+        | NumberNode::OfTruth(_) => true,
+        NumberNode::ShiftRight(left, _) => is_settled(left),
+        NumberNode::BitAnd(left, right) => {
             (is_settled(left) && is_settled(right)) || is_literal(left) || is_literal(right)
         }
-        Number::BitOr(left, right) => is_settled(left) && is_settled(right),
-        Number::BitXor(left, right) => is_settled(left) && is_settled(right),
-        Number::Choose(_, yes, no) => is_settled(yes) && is_settled(no),
+        NumberNode::BitOr(left, right) => is_settled(left) && is_settled(right),
+        NumberNode::BitXor(left, right) => is_settled(left) && is_settled(right),
+        NumberNode::Choose(_, yes, no) => is_settled(yes) && is_settled(no),
         _ => false,
     }
 }
@@ -33,24 +36,24 @@ pub fn is_settled(number: &Number) -> bool
 pub fn settled(number: &Number) -> bool
     ensures { result ≡ spec.number_operands_settled number.now }
 {
-    match number {
-        Number::Field(_) | Number::Literal(_) | Number::Datum(_) => true,
-        Number::Add(left, right) => settled(left) && settled(right),
-        Number::Subtract(left, right) => settled(left) && settled(right),
-        Number::Multiply(left, right) => settled(left) && settled(right),
-        Number::ShiftLeft(left, right) => settled(left) && settled(right) && is_settled(right),
-        Number::ShiftRight(left, right) => settled(left)
+    match &number.node {
+        NumberNode::Field(_) | NumberNode::Literal(_) | NumberNode::Datum(_) => true,
+        NumberNode::Add(left, right) => settled(left) && settled(right),
+        NumberNode::Subtract(left, right) => settled(left) && settled(right),
+        NumberNode::Multiply(left, right) => settled(left) && settled(right),
+        NumberNode::ShiftLeft(left, right) => settled(left) && settled(right) && is_settled(right),
+        NumberNode::ShiftRight(left, right) => settled(left)
             && settled(right)
             && is_settled(left)
             && is_settled(right),
-        Number::BitAnd(left, right) => settled(left) && settled(right),
-        Number::BitOr(left, right) => settled(left) && settled(right),
-        Number::BitXor(left, right) => settled(left) && settled(right),
-        Number::BitNot(operand) => settled(operand),
-        Number::Choose(condition, yes, no) => settled_truth(condition)
+        NumberNode::BitAnd(left, right) => settled(left) && settled(right),
+        NumberNode::BitOr(left, right) => settled(left) && settled(right),
+        NumberNode::BitXor(left, right) => settled(left) && settled(right),
+        NumberNode::BitNot(operand) => settled(operand),
+        NumberNode::Choose(condition, yes, no) => settled_truth(condition)
             && settled(yes)
             && settled(no),
-        Number::OfTruth(operand) => settled_truth(operand),
+        NumberNode::OfTruth(operand) => settled_truth(operand),
     }
 }
 
@@ -59,38 +62,38 @@ pub fn settled(number: &Number) -> bool
 pub fn settled_truth(truth: &Truth) -> bool
     ensures { result ≡ spec.truth_operands_settled truth.now }
 {
-    match truth {
-        Truth::Constant(_) | Truth::IsValid(_) => true,
-        Truth::Equal(left, right) => settled(left)
+    match &truth.node {
+        TruthNode::Constant(_) | TruthNode::IsValid(_) => true,
+        TruthNode::Equal(left, right) => settled(left)
             && settled(right)
             && is_settled(left)
             && is_settled(right),
-        Truth::NotEqual(left, right) => settled(left)
+        TruthNode::NotEqual(left, right) => settled(left)
             && settled(right)
             && is_settled(left)
             && is_settled(right),
-        Truth::Less(left, right) => settled(left)
+        TruthNode::Less(left, right) => settled(left)
             && settled(right)
             && is_settled(left)
             && is_settled(right),
-        Truth::LessOrEqual(left, right) => settled(left)
+        TruthNode::LessOrEqual(left, right) => settled(left)
             && settled(right)
             && is_settled(left)
             && is_settled(right),
-        Truth::Greater(left, right) => settled(left)
+        TruthNode::Greater(left, right) => settled(left)
             && settled(right)
             && is_settled(left)
             && is_settled(right),
-        Truth::GreaterOrEqual(left, right) => settled(left)
+        TruthNode::GreaterOrEqual(left, right) => settled(left)
             && settled(right)
             && is_settled(left)
             && is_settled(right),
-        Truth::And(left, right) => settled_truth(left) && settled_truth(right),
-        Truth::Or(left, right) => settled_truth(left) && settled_truth(right),
-        Truth::Not(operand) => settled_truth(operand),
-        Truth::Select(condition, yes, no) => settled_truth(condition)
+        TruthNode::And(left, right) => settled_truth(left) && settled_truth(right),
+        TruthNode::Or(left, right) => settled_truth(left) && settled_truth(right),
+        TruthNode::Not(operand) => settled_truth(operand),
+        TruthNode::Select(condition, yes, no) => settled_truth(condition)
             && settled_truth(yes)
             && settled_truth(no),
-        Truth::OfNumber(operand) => settled(operand) && is_settled(operand),
+        TruthNode::OfNumber(operand) => settled(operand) && is_settled(operand),
     }
 }

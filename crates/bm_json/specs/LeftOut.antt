@@ -7,9 +7,8 @@ use Rattle.bm_values.specs.declared.raw.Part.TheVariants as parts
 use Rattle.bm_records.specs.declared.raw.TypeField.{TypeField}
 use Rattle.bm_records.specs.declared.raw.HeaderType.{HeaderType}
 use Rattle.bm_records.specs.declared.raw.Header.{Header}
-use Rattle.bm_values.specs.declared.raw.Term.{Term}
-use Rattle.bm_values.specs.declared.raw.Term.TheVariants as terms
-use Rattle.bm_values.specs.declared.raw.Expression.{Expression}
+use Rattle.bm_values.specs.Trees.{Tree}
+use Rattle.bm_values.specs.Trees as trees
 use Rattle.bm_records.specs.declared.raw.LearnListName.{LearnListName}
 use Rattle.bm_records.specs.declared.raw.LearnListName.TheVariants as names
 use Rattle.bm_records.specs.declared.raw.Primitive.{Primitive}
@@ -41,19 +40,18 @@ is_left_out parts.LeftOut = true
 abbrev pub type_left_out : HeaderType → Bool
 type_left_out type = list_any (λ field. is_left_out field.width) type.fields
 
--- a term is left out, or its literal or its header is
-abbrev pub term_left_out : Term → Bool
-term_left_out (terms.Literal literal) = is_left_out literal
-term_left_out (terms.Header header) = is_left_out header
-term_left_out terms.LeftOut = true
-term_left_out _ = false
-
--- a term of an expression is left out
-abbrev pub expression_left_out : Expression → Bool
-expression_left_out expression = list_any term_left_out expression.terms
+-- an expression is left out, or a part of it is
+abbrev pub expression_left_out : Tree → Bool
+expression_left_out (trees.literal literal) = is_left_out literal
+expression_left_out (trees.valid header) = is_left_out header
+expression_left_out (trees.unary operator x) = expression_left_out x
+expression_left_out (trees.binary operator x y) = expression_left_out x || expression_left_out y
+expression_left_out (trees.choice condition x y) = expression_left_out condition || expression_left_out x || expression_left_out y
+expression_left_out trees.left_out = true
+expression_left_out _ = false
 
 -- the same for a condition, where there is one
-abbrev pub condition_left_out : Option Expression → Bool
+abbrev pub condition_left_out : Option Tree → Bool
 condition_left_out None = false
 condition_left_out (Some condition) = expression_left_out condition
 
@@ -161,9 +159,36 @@ abbrev pub is_ragged_type : Option HeaderType → Bool
 is_ragged_type None = false
 is_ragged_type (Some type) = not (bits_over type.fields == 0)
 
+-- the fields of a header do not fill whole bytes
+abbrev pub has_ragged_type : List HeaderType → Header → Bool
+has_ragged_type types header = is_ragged_type (type_named types header.header_type)
+
 -- a header that is no metadata, and not whole bytes
 abbrev pub is_ragged : List HeaderType → Header → Bool
-is_ragged types header = not header.metadata && is_ragged_type (type_named types header.header_type)
+is_ragged types header = not header.metadata && has_ragged_type types header
+
+-- there is a header, and it is not whole bytes
+abbrev pub is_ragged_header : List HeaderType → Option Header → Bool
+is_ragged_header types None = false
+is_ragged_header types (Some header) = has_ragged_type types header
+
+-- the first header of a name, if there is one
+abbrev pub header_named : List Header → List ℕ → Option Header
+header_named headers name = find (λ header. bytes_eq header.name name) headers
+
+-- the first header of a name is not whole bytes
+abbrev pub names_ragged : List HeaderType → List Header → List ℕ → Bool
+names_ragged types headers name = is_ragged_header types (header_named headers name)
+
+-- an operation extracts a header that is not whole bytes
+abbrev pub extracts_ragged : List HeaderType → List Header → ParserOp → Bool
+extracts_ragged types headers (parser_ops.Extract (parts.Served name)) = names_ragged types headers name
+extracts_ragged types headers _ = false
+
+-- a header that is read from packets or written to them is not whole bytes, also where it is metadata
+abbrev pub packets_left_out : RawProgram → Bool
+packets_left_out program =
+    list_any (names_ragged program.header_types program.headers) program.deparser.order || list_any (λ state. list_any (extracts_ragged program.header_types program.headers) state.parser_ops) program.parser.parse_states
 
 -- objects that are left out are listed, a header type is left out, or a header is not whole bytes
 abbrev pub headers_left_out : RawProgram → Bool
@@ -180,4 +205,4 @@ steps_left_out program = list_any state_left_out program.parser.parse_states || 
 
 -- the program has a form that is left out
 unfoldable pub has_left_out : RawProgram → Bool
-has_left_out program = headers_left_out program || objects_left_out program || steps_left_out program
+has_left_out program = headers_left_out program || packets_left_out program || objects_left_out program || steps_left_out program

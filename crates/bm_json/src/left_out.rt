@@ -2,14 +2,15 @@
 ghost use Rattle.std.specs.Prelude.{◌≡◌};
 ghost use Rattle.std.specs.List.{list_any};
 ghost use Rattle.std.specs.Option.{option_copied};
-ghost use Rattle.bm_json.specs.LeftOut.{is_left_out, type_left_out, term_left_out, expression_left_out, condition_left_out, name_left_out, primitive_left_out, action_left_out, parser_op_left_out, match_left_out, mask_left_out, transition_left_out, state_left_out, input_left_out, calculation_left_out, checksum_left_out, learn_list_left_out, default_left_out, table_left_out, selector_left_out, pipeline_left_out, width_bits, bits_over, type_named, is_ragged, headers_left_out, objects_left_out, steps_left_out, has_left_out};
+ghost use Rattle.bm_json.specs.LeftOut.{is_left_out, type_left_out, expression_left_out, condition_left_out, name_left_out, primitive_left_out, action_left_out, parser_op_left_out, match_left_out, mask_left_out, transition_left_out, state_left_out, input_left_out, calculation_left_out, checksum_left_out, learn_list_left_out, default_left_out, table_left_out, selector_left_out, pipeline_left_out, width_bits, bits_over, type_named, has_ragged_type, is_ragged, header_named, names_ragged, extracts_ragged, packets_left_out, headers_left_out, objects_left_out, steps_left_out, has_left_out};
 
 use bm_records::raw::{
     Action, ActionProfile, Calculation, CalculationInput, Checksum, Conditional, Datum,
-    DefaultEntry, Expression, Header, HeaderType, LearnList, LearnListName, MatchValue, ParseState,
-    ParserOp, Part, Pipeline, Primitive, RawLiteral, RawProgram, RawWidth, Selector, Table, Term,
-    Transition, TypeField,
+    DefaultEntry, Expression, Header, HeaderType, LearnList, LearnListName, MatchValue, Node,
+    ParseState, ParserOp, Part, Pipeline, Primitive, RawLiteral, RawProgram, RawWidth, Selector,
+    Table, Transition, TypeField,
 };
+use list_types::Text;
 
 fn is_left_out<T>(part: &Part<T>) -> bool
     ensures { result ≡ is_left_out part.now }
@@ -33,25 +34,20 @@ fn type_left_out(header_type: &HeaderType) -> bool
     fields.iter().any(|field| is_left_out(&field.width))
 }
 
-fn term_left_out(term: &Term) -> bool
-    ensures { result ≡ term_left_out term.now }
-{
-    match term {
-        Term::Literal(literal) => is_left_out(literal),
-        Term::Header(header) => is_left_out(header),
-        Term::LeftOut => true,
-        _ => false,
-    }
-}
-
 fn expression_left_out(expression: &Expression) -> bool
     ensures { result ≡ expression_left_out expression.now }
 {
-    expression
-        .terms
-        .as_slice()
-        .iter()
-        .any(|term| term_left_out(term))
+    match &expression.node {
+        Node::Literal(literal) => is_left_out(literal),
+        Node::Valid(header) => is_left_out(header),
+        Node::Unary(_, x) => expression_left_out(x),
+        Node::Binary(_, x, y) => expression_left_out(x) || expression_left_out(y),
+        Node::Choice(condition, x, y) => {
+            expression_left_out(condition) || expression_left_out(x) || expression_left_out(y)
+        }
+        Node::LeftOut => true,
+        _ => false,
+    }
 }
 
 fn condition_left_out(condition: &Option<Expression>) -> bool
@@ -272,16 +268,76 @@ pub(crate) fn type_named<'a>(types: &'a [HeaderType], name: &str) -> Option<&'a 
         .find(|header_type| header_type.name.as_str() == name)
 }
 
-fn is_ragged(types: &[HeaderType], header: &Header) -> bool
-    ensures { result ≡ is_ragged types.now header.now }
+fn has_ragged_type(types: &[HeaderType], header: &Header) -> bool
+    ensures { result ≡ has_ragged_type types.now header.now }
 {
-    if header.metadata {
-        return false;
-    }
     match type_named(types, header.header_type.as_str()) {
         None => false,
         Some(header_type) => bits_over(header_type.fields.as_slice()) != 0,
     }
+}
+
+fn is_ragged(types: &[HeaderType], header: &Header) -> bool
+    ensures { result ≡ is_ragged types.now header.now }
+{
+    !header.metadata && has_ragged_type(types, header)
+}
+
+fn header_named<'a>(headers: &'a [Header], name: &str) -> Option<&'a Header>
+    ensures { option_copied result ≡ header_named headers.now name.now }
+{
+    headers.iter().find(|header| header.name.as_str() == name)
+}
+
+fn names_ragged(types: &[HeaderType], headers: &[Header], name: &str) -> bool
+    ensures { result ≡ names_ragged types.now headers.now name.now }
+{
+    match header_named(headers, name) {
+        None => false,
+        Some(header) => has_ragged_type(types, header),
+    }
+}
+
+fn extracts_ragged(types: &[HeaderType], headers: &[Header], op: &ParserOp) -> bool
+    ensures { result ≡ extracts_ragged types.now headers.now op.now }
+{
+    match op {
+        ParserOp::Extract(Part::Served(name)) => names_ragged(types, headers, name.as_str()),
+        _ => false,
+    }
+}
+
+fn any_extracts_ragged(types: &[HeaderType], headers: &[Header], ops: &[ParserOp]) -> bool
+    ensures { result ≡ list_any (extracts_ragged types.now headers.now) ops.now }
+{
+    ops.iter().any(|op| extracts_ragged(types, headers, op))
+}
+
+fn any_state_extracts_ragged(
+    types: &[HeaderType],
+    headers: &[Header],
+    states: &[ParseState],
+) -> bool
+    ensures { result ≡ list_any (λ state. list_any (extracts_ragged types.now headers.now) state.parser_ops) states.now }
+{
+    states.iter().any(|state| any_extracts_ragged(types, headers, state.parser_ops.as_slice()))
+}
+
+fn any_name_ragged(types: &[HeaderType], headers: &[Header], names: &[Text]) -> bool
+    ensures { result ≡ list_any (names_ragged types.now headers.now) names.now }
+{
+    names
+        .iter()
+        .any(|name| names_ragged(types, headers, name.as_str()))
+}
+
+fn packets_left_out(program: &RawProgram) -> bool
+    ensures { result ≡ packets_left_out program.now }
+{
+    let types = program.header_types.as_slice();
+    let headers = program.headers.as_slice();
+    any_name_ragged(types, headers, program.deparser.order.as_slice())
+        || any_state_extracts_ragged(types, headers, program.parser.parse_states.as_slice())
 }
 
 fn any_type(items: &[HeaderType]) -> bool
@@ -355,5 +411,8 @@ fn steps_left_out(program: &RawProgram) -> bool
 pub(crate) fn has_left_out(program: &RawProgram) -> bool
     ensures { result ≡ has_left_out program.now }
 {
-    headers_left_out(program) || objects_left_out(program) || steps_left_out(program)
+    headers_left_out(program)
+        || packets_left_out(program)
+        || objects_left_out(program)
+        || steps_left_out(program)
 }

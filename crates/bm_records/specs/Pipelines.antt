@@ -1,15 +1,14 @@
 -- Tables, action profiles, conditionals and pipelines (BMv2 JSON form, "pipelines").
-use Rattle.std.specs.Prelude.{ℕ, ◌==◌, if◌then◌else◌, List, [], ◌∷◌, length, Option, Some, None, is_some, codes}
+use Rattle.std.specs.Prelude.{ℕ, ◌==◌, if◌then◌else◌, List, [], ◌∷◌, length, Option, Some, None, is_some, codes, ⊤}
 use Rattle.std.specs.Str.{bytes_eq}
 use Rattle.p4_types.specs.declared.info.MatchKind.{MatchKind}
 use Rattle.p4_types.specs.declared.info.MatchKind.TheVariants as match_kinds
-use Rattle.serde_json.specs.Data.{Data}
+use Rattle.serde_json.specs.Data.{Data, Members, no_members, member}
 use Rattle.serde_json.specs.Find.{get, as_null, as_str, as_object}
 use Rattle.bm_records.specs.declared.raw.KeyField.{KeyField}
 use Rattle.bm_records.specs.declared.raw.TableKind.{TableKind}
 use Rattle.bm_records.specs.declared.raw.TableKind.TheVariants as table_kinds
-use Rattle.bm_records.specs.declared.raw.Next.{Next}
-use Rattle.bm_records.specs.declared.raw.Next.TheVariants as nexts
+use Rattle.bm_records.specs.declared.raw.NextTable.{NextTable}
 use Rattle.bm_records.specs.declared.raw.DefaultEntry.{DefaultEntry}
 use Rattle.bm_records.specs.declared.raw.Table.{Table}
 use Rattle.bm_records.specs.declared.raw.Selector.{Selector}
@@ -57,28 +56,23 @@ abbrev pub profile_by : TableKind → Data → Option (Option (List ℕ))
 profile_by table_kinds.Simple d = Some None
 profile_by _ d = required as_str (codes "action_profile") d >>= λ name. Some (Some name)
 
--- what follows on an outcome: a node by its name, the end of the pipeline where null stands, or nothing that is named
-abbrev pub next_by : Option (Option (List ℕ)) → Next
-next_by None = nexts.NotNamed
-next_by (Some None) = nexts.End
-next_by (Some (Some node)) = nexts.Node node
+-- what follows on an outcome: a node, or the end of the pipeline where null stands
+abbrev pub next_table : List ℕ → Data → Option NextTable
+next_table outcome d = nullable as_str d >>= λ node. Some (record { outcome = outcome; node = node })
 
--- what `next_tables` says of an outcome
-abbrev pub next_in : List ℕ → Option Data → Option Next
-next_in name None = Some nexts.NotNamed
-next_in name (Some d) =
-    if is_some (as_null d) then Some nexts.NotNamed
-    else if is_some (as_object d) then (unless_absent (nullable as_str) name d >>= λ given. Some (next_by given))
-    else None
+-- what follows on each outcome
+abbrev pub each_next : Members → Option (List NextTable)
+each_next no_members = Some []
+each_next (member outcome d ms) = next_table outcome d >>= λ next. each_next ms >>= λ others. Some (next ∷ others)
 
--- what follows a table on an outcome, by its `next_tables`
-unfoldable pub next_at : List ℕ → Data → Option Next
-next_at name d = next_in name (get (codes "next_tables") d)
+-- what `next_tables` names; null stands for an empty one
+abbrev pub nexts_in : Option Data → Option (List NextTable)
+nexts_in None = Some []
+nexts_in (Some d) = if is_some (as_null d) then Some [] else as_object d >>= each_next
 
--- what follows each of these actions
-abbrev pub each_next : List (List ℕ) → Data → Option (List Next)
-each_next [] d = Some []
-each_next (name ∷ rest) d = next_at name d >>= λ next. each_next rest d >>= λ others. Some (next ∷ others)
+-- what follows a table on each outcome
+unfoldable pub next_tables_of : Data → Option (List NextTable)
+next_tables_of d = nexts_in (get (codes "next_tables") d)
 
 -- a default entry: the id of its action, and its action data
 unfoldable pub default_of : Data → Option DefaultEntry
@@ -87,9 +81,9 @@ default_of d = do
   action_data ← required (list_of literal_of) (codes "action_data") d
   Some (record { action_id = action_id; action_data = action_data })
 
--- what is read, where there are as many of one as of the other
-abbrev pub if_as_many : {A : Type 0} → ℕ → ℕ → Option A → Option A
-if_as_many n m read = if n == m then read else None
+-- there are as many of one as of the other
+abbrev pub as_many : ℕ → ℕ → Option ⊤
+as_many n m = if n == m then Some tt else None
 
 -- a table with its actions' ids and names side by side
 unfoldable pub table_of : Data → Option Table
@@ -101,13 +95,12 @@ table_of d = do
   action_profile ← profile_by kind d
   action_ids ← required (list_of natural_of) (codes "action_ids") d
   actions ← required (list_of as_str) (codes "actions") d
-  followers ← if_as_many (length action_ids) (length actions) (each_next actions d)
-  hit ← next_at (codes "__HIT__") d
-  miss ← next_at (codes "__MISS__") d
+  _ ← as_many (length action_ids) (length actions)
+  next_tables ← next_tables_of d
   base_default_next ← optional as_str (codes "base_default_next") d
   default_entry ← unless_absent default_of (codes "default_entry") d
   has_entries ← filled (codes "entries") d
-  Some (record { name = name; key = key; kind = kind; action_profile = action_profile; action_ids = action_ids; actions = actions; nexts = followers; hit = hit; miss = miss; base_default_next = base_default_next; default_entry = default_entry; has_entries = has_entries })
+  Some (record { name = name; key = key; kind = kind; action_profile = action_profile; action_ids = action_ids; actions = actions; next_tables = next_tables; base_default_next = base_default_next; default_entry = default_entry; has_entries = has_entries })
 
 -- a selector: the fields that are its input
 unfoldable pub selector_of : Data → Option Selector

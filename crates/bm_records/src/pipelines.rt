@@ -1,18 +1,18 @@
 //! Tables, action profiles, conditionals and pipelines.
 ghost use Rattle.std.specs.Prelude.{◌≡◌, length};
-ghost use Rattle.serde_json.specs.View.{view};
+ghost use Rattle.serde_json.specs.View.{view, members_view};
 ghost use Rattle.json_shapes.specs.Shapes.{Reads};
-ghost use Rattle.bm_records.specs.Pipelines.{match_kind, key_field_of, table_kind, profile_by, next_by, next_at, each_next, if_as_many, default_of, table_of, selector_of, profile_of, conditional_of, gress, pipeline_of, sides, pipelines_of};
+ghost use Rattle.bm_records.specs.Pipelines.{match_kind, key_field_of, table_kind, profile_by, next_table, each_next, next_tables_of, as_many, default_of, table_of, selector_of, profile_of, conditional_of, gress, pipeline_of, sides, pipelines_of};
 
 use crate::raw::{
-    ActionProfile, Conditional, DefaultEntry, Gress, KeyField, Next, Pipeline, Pipelines, Selector,
-    Table, TableKind,
+    ActionProfile, Conditional, DefaultEntry, Gress, KeyField, NextTable, Pipeline, Pipelines,
+    Selector, Table, TableKind,
 };
 use json_shapes::shapes::{self, FromJson};
 use json_shapes::{ShapeError, arrays};
 use list_types::{List, Text};
 use p4_types::info::MatchKind;
-use serde_json::Value;
+use serde_json::{Map, Value};
 use std::alloc::Global;
 
 fn match_kind(text: &str) -> Result<MatchKind, ShapeError>
@@ -72,56 +72,49 @@ fn profile_by(alloc: Global, kind: TableKind, value: &Value) -> Result<Option<Te
     }
 }
 
-fn next_by(given: Option<Option<Text>>) -> Next
-    ensures { result ≡ next_by given }
+fn next_table(alloc: Global, outcome: &str, node: &Value) -> Result<NextTable, ShapeError>
+    ensures { Reads result (next_table outcome.now (view node.now)) }
 {
-    match given {
-        None => Next::NotNamed,
-        Some(None) => Next::End,
-        Some(Some(node)) => Next::Node(node),
-    }
+    let outcome = Text::from_string(String::from_str(alloc, outcome)?);
+    let node = FromJson::from_json(alloc, node)?;
+    Ok(NextTable { outcome, node })
 }
 
-#[tactic(auto, unfolding(crate::specs::Pipelines::next_at))]
-fn next_at(alloc: Global, value: &Value, name: &str) -> Result<Next, ShapeError>
-    ensures { Reads result (next_at name.now (view value.now)) }
-{
-    let Some(nexts) = value.get("next_tables") else {
-        return Ok(Next::NotNamed);
-    };
-    if nexts.is_null() {
-        return Ok(Next::NotNamed);
-    }
-    if !nexts.is_object() {
-        return Err(ShapeError::Shape);
-    }
-    let given = shapes::unless_absent(alloc, nexts, name)?;
-    Ok(next_by(given))
-}
-
-fn each_next(alloc: Global, names: &[Text], value: &Value) -> Result<List<Next>, ShapeError>
-    ensures { Reads result (each_next names.now (view value.now)) }
+fn each_next(alloc: Global, members: &Map<String, Value>) -> Result<List<NextTable>, ShapeError>
+    ensures { Reads result (each_next (members_view members.now.entries)) }
 {
     let mut nexts = List::new(alloc);
-    for name in names {
-        let next = next_at(alloc, value, name.as_str())?;
+    for (name, node) in members.iter() {
+        let next = next_table(alloc, name.as_str(), node)?;
         nexts.push(next)?;
     }
     Ok(nexts)
 }
 
-fn nexts_of(
-    alloc: Global,
-    ids: &List<u64>,
-    names: &List<Text>,
-    value: &Value,
-) -> Result<List<Next>, ShapeError>
-    ensures { Reads result (if_as_many (length ids.now) (length names.now) (each_next names.now (view value.now))) }
+#[tactic(auto, unfolding(crate::specs::Pipelines::next_tables_of))]
+fn next_tables(alloc: Global, value: &Value) -> Result<List<NextTable>, ShapeError>
+    ensures { Reads result (next_tables_of (view value.now)) }
 {
-    if ids.len() != names.len() {
-        return Err(ShapeError::Shape);
+    let Some(nexts) = value.get("next_tables") else {
+        return Ok(List::new(alloc));
+    };
+    if nexts.is_null() {
+        return Ok(List::new(alloc));
     }
-    each_next(alloc, names.as_slice(), value)
+    match nexts.as_object() {
+        Some(members) => each_next(alloc, members),
+        None => Err(ShapeError::Shape),
+    }
+}
+
+fn as_many(ids: &List<u64>, names: &List<Text>) -> Result<(), ShapeError>
+    ensures { Reads result (as_many (length ids.now) (length names.now)) }
+{
+    if ids.len() == names.len() {
+        Ok(())
+    } else {
+        Err(ShapeError::Shape)
+    }
 }
 
 impl FromJson for DefaultEntry {
@@ -150,9 +143,8 @@ impl FromJson for Table {
         let action_profile = profile_by(alloc, kind, value)?;
         let action_ids = shapes::required(alloc, value, "action_ids")?;
         let actions = shapes::required(alloc, value, "actions")?;
-        let nexts = nexts_of(alloc, &action_ids, &actions, value)?;
-        let hit = next_at(alloc, value, "__HIT__")?;
-        let miss = next_at(alloc, value, "__MISS__")?;
+        as_many(&action_ids, &actions)?;
+        let next_tables = next_tables(alloc, value)?;
         let base_default_next = shapes::optional(alloc, value, "base_default_next")?;
         let default_entry = shapes::unless_absent(alloc, value, "default_entry")?;
         let has_entries = shapes::filled(value, "entries")?;
@@ -163,9 +155,7 @@ impl FromJson for Table {
             action_profile,
             action_ids,
             actions,
-            nexts,
-            hit,
-            miss,
+            next_tables,
             base_default_next,
             default_entry,
             has_entries,

@@ -1,7 +1,8 @@
 //! The raw records of a pipeline: what its JSON says, with references by name. A number or a form that
 //! the switch does not serve stands as left out, an operation that the profile does not know by its name.
 pub use bm_values::raw::{
-    Expression, FieldName, Operator, Part, RawField, RawLiteral, RawWidth, Term,
+    BinaryOperator, Expression, FieldName, Node, Part, RawField, RawLiteral, RawWidth,
+    UnaryOperator,
 };
 use list_types::{List, Text};
 use p4_types::info::MatchKind;
@@ -179,12 +180,11 @@ pub enum TableKind {
     IndirectWithSelector,
 }
 
-/// What follows a table on an outcome: it is not named, or is a node or the end of the pipeline.
+/// What follows a table on an outcome: `__HIT__`, `__MISS__`, or an action's name; it ends the pipeline where no node is named.
 #[derive(Drop)]
-pub enum Next {
-    NotNamed,
-    End,
-    Node(Text),
+pub struct NextTable {
+    pub outcome: Text,
+    pub node: Option<Text>,
 }
 
 #[derive(Drop)]
@@ -200,14 +200,11 @@ pub struct Table {
     pub kind: TableKind,
     /// The name of its action profile, where it is indirect.
     pub action_profile: Option<Text>,
-    /// The ids of its actions, their names and what follows each, side by side.
+    /// The ids of its actions and their names, side by side.
     pub action_ids: List<u64>,
     pub actions: List<Text>,
-    pub nexts: List<Next>,
-    /// `__HIT__`
-    pub hit: Next,
-    /// `__MISS__`
-    pub miss: Next,
+    /// All that `next_tables` names, by rising outcomes.
+    pub next_tables: List<NextTable>,
     pub base_default_next: Option<Text>,
     pub default_entry: Option<DefaultEntry>,
     /// Whether entries are written in the program.

@@ -1,12 +1,14 @@
 -- Kinds of values and operators, by their names in JSON (BMv2 JSON form, "The type value object" and "expressions").
 use Rattle.std.specs.Prelude.{ℕ, Bool, ◌||◌, if◌then◌else◌, List, Option, Some, None, codes}
 use Rattle.std.specs.Str.{bytes_eq}
-use Rattle.bm_values.specs.declared.raw.Operator.{Operator}
-use Rattle.bm_values.specs.declared.raw.Operator.TheVariants as operators
+use Rattle.bm_values.specs.declared.raw.UnaryOperator.{UnaryOperator}
+use Rattle.bm_values.specs.declared.raw.UnaryOperator.TheVariants as unary
+use Rattle.bm_values.specs.declared.raw.BinaryOperator.{BinaryOperator}
+use Rattle.bm_values.specs.declared.raw.BinaryOperator.TheVariants as operators
 use Rattle.bm_values.specs.declared.kinds.ValueKind.{ValueKind}
 use Rattle.bm_values.specs.declared.kinds.ValueKind.TheVariants as kinds
-use Rattle.bm_values.specs.declared.kinds.Arity.{Arity}
-use Rattle.bm_values.specs.declared.kinds.Arity.TheVariants as arities
+use Rattle.bm_values.specs.declared.kinds.Operation.{Operation}
+use Rattle.bm_values.specs.declared.kinds.Operation.TheVariants as operations
 
 -- a kind of values that is left out: of stacks, unions, registers, meters and externs, and what is looked up ahead
 abbrev pub is_left_out_kind : List ℕ → Bool
@@ -31,7 +33,7 @@ value_kind kind =
     else kinds.Other
 
 -- an operator of arithmetic or of a shift, by its name
-abbrev pub sum_operator : List ℕ → Option Operator
+abbrev pub sum_operator : List ℕ → Option BinaryOperator
 sum_operator op =
     if bytes_eq op (codes "+") then Some operators.Add
     else if bytes_eq op (codes "-") then Some operators.Subtract
@@ -40,17 +42,16 @@ sum_operator op =
     else if bytes_eq op (codes ">>") then Some operators.ShiftRight
     else None
 
--- an operator on bits, by its name
-abbrev pub bit_operator : List ℕ → Option Operator
+-- an operator on the bits of two numbers, by its name
+abbrev pub bit_operator : List ℕ → Option BinaryOperator
 bit_operator op =
     if bytes_eq op (codes "&") then Some operators.BitAnd
     else if bytes_eq op (codes "|") then Some operators.BitOr
     else if bytes_eq op (codes "^") then Some operators.BitXor
-    else if bytes_eq op (codes "~") then Some operators.BitNot
     else None
 
 -- a comparison, by its name
-abbrev pub comparison : List ℕ → Option Operator
+abbrev pub comparison : List ℕ → Option BinaryOperator
 comparison op =
     if bytes_eq op (codes "==") then Some operators.Equal
     else if bytes_eq op (codes "!=") then Some operators.NotEqual
@@ -60,16 +61,11 @@ comparison op =
     else if bytes_eq op (codes ">=") then Some operators.GreaterOrEqual
     else None
 
--- an operator of truth values by its name, with `d2b`, `b2d`, `valid` and `?`
-abbrev pub logic_operator : List ℕ → Option Operator
-logic_operator op =
+-- a connective of truth values, by its name
+abbrev pub connective : List ℕ → Option BinaryOperator
+connective op =
     if bytes_eq op (codes "and") then Some operators.And
     else if bytes_eq op (codes "or") then Some operators.Or
-    else if bytes_eq op (codes "not") then Some operators.Not
-    else if bytes_eq op (codes "d2b") then Some operators.ToTruth
-    else if bytes_eq op (codes "b2d") then Some operators.ToNumber
-    else if bytes_eq op (codes "valid") then Some operators.Valid
-    else if bytes_eq op (codes "?") then Some operators.Choose
     else None
 
 -- the first of two where it is there, or else the second
@@ -77,22 +73,34 @@ abbrev pub or_else : {A : Type 0} → Option A → Option A → Option A
 or_else None other = other
 or_else (Some x) other = Some x
 
--- the operator of a name, if it is one that is served
-unfoldable pub operator_of : List ℕ → Option Operator
-operator_of op = or_else (sum_operator op) (or_else (bit_operator op) (or_else (comparison op) (logic_operator op)))
+-- an operator with two operands, by its name
+unfoldable pub binary_operator : List ℕ → Option BinaryOperator
+binary_operator op = or_else (sum_operator op) (or_else (bit_operator op) (or_else (comparison op) (connective op)))
+
+-- an operator with one operand, by its name
+abbrev pub unary_operator : List ℕ → Option UnaryOperator
+unary_operator op =
+    if bytes_eq op (codes "~") then Some unary.BitNot
+    else if bytes_eq op (codes "not") then Some unary.Not
+    else if bytes_eq op (codes "d2b") then Some unary.ToTruth
+    else if bytes_eq op (codes "b2d") then Some unary.ToNumber
+    else None
+
+-- the operation of the first operator that is there
+abbrev pub operation_by : Option UnaryOperator → Option BinaryOperator → Option Operation
+operation_by (Some operator) other = Some (operations.Unary operator)
+operation_by None (Some operator) = Some (operations.Binary operator)
+operation_by None None = None
+
+-- the operation of a name, if it is one that is served
+unfoldable pub operation_of : List ℕ → Option Operation
+operation_of op =
+    if bytes_eq op (codes "valid") then Some operations.Valid
+    else if bytes_eq op (codes "?") then Some operations.Choice
+    else operation_by (unary_operator op) (binary_operator op)
 
 -- saturating casts, signed numbers, and the operators of stacks and unions
 unfoldable pub is_left_out_operator : List ℕ → Bool
 is_left_out_operator op =
     bytes_eq op (codes "sat_cast") || bytes_eq op (codes "usat_cast") || bytes_eq op (codes "two_comp_mod") || bytes_eq op (codes "dereference_header_stack") || bytes_eq op (codes "dereference_union_stack")
     || bytes_eq op (codes "last_stack_index") || bytes_eq op (codes "size_stack") || bytes_eq op (codes "access_field") || bytes_eq op (codes "access_union_header") || bytes_eq op (codes "valid_union")
-
--- how many operands an operator has
-abbrev pub arity_of : Operator → Arity
-arity_of operators.BitNot = arities.Unary
-arity_of operators.Not = arities.Unary
-arity_of operators.ToTruth = arities.Unary
-arity_of operators.ToNumber = arities.Unary
-arity_of operators.Valid = arities.OfHeader
-arity_of operators.Choose = arities.Choice
-arity_of _ = arities.Binary

@@ -1,179 +1,158 @@
-//! Expressions, read into terms in postfix notation.
+//! Expressions, read as trees.
 ghost use Rattle.std.specs.Prelude.{◌≡◌, Some};
 ghost use Rattle.serde_json.specs.View.{view};
-ghost use Rattle.json_shapes.specs.Shapes.{Reads, Extends};
-ghost use Rattle.bm_values.specs.Kinds.{operator_of};
-ghost use Rattle.bm_values.specs.Expressions.{not_served, terms_onto, expression_of, onto_member, onto_header, onto_operands, onto_operator, onto_operation, onto_kind};
+ghost use Rattle.json_shapes.specs.Shapes.{Reads};
+ghost use Rattle.bm_values.specs.Kinds.{operation_of};
+ghost use Rattle.bm_values.specs.Expressions.{inside, operand, unary_of, binary_of, choice_of, valid_of, not_served, operation_with, operation, value_with, tree_with, tree_of, IsRecursion, expression_of};
 
-use crate::kinds::{self, Arity, ValueKind};
-use crate::raw::{Expression, Term};
+use crate::kinds::{self, Operation, ValueKind};
+use crate::raw::{BinaryOperator, Expression, Node, UnaryOperator};
 use crate::values;
 use json_shapes::ShapeError;
 use json_shapes::shapes::{self, FromJson};
-use list_types::{List, Text};
+use list_types::Text;
 use serde_json::Value;
 use std::alloc::Global;
 
-/// As many levels as JSON nests, and one.
-const LEVELS: u32 = 128;
-
-fn not_served(alloc: Global, op: &str) -> Result<Term, ShapeError>
+fn not_served(alloc: Global, op: &str) -> Result<Expression, ShapeError>
     ensures { Reads result (Some (not_served op.now)) }
 {
     if kinds::is_left_out_operator(op) {
-        return Ok(Term::LeftOut);
+        return Ok(Expression {
+            node: Node::LeftOut,
+        });
     }
     let op = String::from_str(alloc, op)?;
-    Ok(Term::Unknown(Text::from_string(op)))
+    Ok(Expression {
+        node: Node::Unknown(Text::from_string(op)),
+    })
 }
 
-#[tactic(auto, unfolding(crate::specs::Expressions::onto_header))]
-fn push_header(alloc: Global, value: &Value, terms: &mut List<Term>) -> Result<(), ShapeError>
-    ensures { Extends result terms.new (onto_header terms.old (view value.now)) }
+#[tactic(auto, unfolding(crate::specs::Expressions::valid_of))]
+fn valid(alloc: Global, value: &Value) -> Result<Expression, ShapeError>
+    ensures { Reads result (valid_of (view value.now)) }
 {
+    shapes::null(value, "left")?;
     let header = shapes::required(alloc, value, "right")?;
-    terms.push(Term::Header(header))?;
-    Ok(())
+    Ok(Expression {
+        node: Node::Valid(header),
+    })
 }
 
-#[cycle(terms)]
-#[tactic(auto, unfolding(crate::specs::Expressions::onto_member))]
-fn push_member(
-    alloc: Global,
-    value: &Value,
-    name: &str,
-    levels: u32,
-    terms: &mut List<Term>,
-) -> Result<(), ShapeError>
-    ensures { Extends result terms.new (onto_member (terms_onto levels) name.now terms.old (view value.now)) }
+#[cycle(trees)]
+#[tactic(auto, using(crate::proofs::Recursion::lower))]
+fn member(alloc: Global, value: &Value, name: &str) -> Result<Expression, ShapeError>
+    ensures { Reads result (inside (view value.now) name.now) }
 {
     match value.get(name) {
-        Some(inside) => push_terms(alloc, inside, levels, terms),
+        Some(member) => tree(alloc, member),
         None => Err(ShapeError::Shape),
     }
 }
 
-#[cycle(terms)]
-#[tactic(auto, unfolding(json_shapes::specs::Shapes::required))]
-fn push_operands(
-    alloc: Global,
-    value: &Value,
-    arity: Arity,
-    levels: u32,
-    terms: &mut List<Term>,
-) -> Result<(), ShapeError>
-    ensures { Extends result terms.new (onto_operands (terms_onto levels) arity terms.old (view value.now)) }
+#[cycle(trees)]
+#[tactic(auto, unfolding(crate::specs::Expressions::operand, json_shapes::specs::Shapes::required), using(crate::proofs::Recursion::lower))]
+fn operand(alloc: Global, value: &Value, name: &str) -> Result<Expression, ShapeError>
+    ensures { Reads result (operand (inside (view value.now)) name.now (view value.now)) }
 {
-    match arity {
-        Arity::Unary => {
-            shapes::null(value, "left")?;
-            push_member(alloc, value, "right", levels, terms)
-        }
-        Arity::OfHeader => {
-            shapes::null(value, "left")?;
-            push_header(alloc, value, terms)
-        }
-        Arity::Binary => {
-            push_member(alloc, value, "left", levels, terms)?;
-            push_member(alloc, value, "right", levels, terms)
-        }
-        Arity::Choice => {
-            push_member(alloc, value, "cond", levels, terms)?;
-            push_member(alloc, value, "left", levels, terms)?;
-            push_member(alloc, value, "right", levels, terms)
-        }
+    let Some(inside) = value.get(name) else {
+        return Err(ShapeError::Shape);
+    };
+    values::kind_of(inside)?;
+    tree(alloc, inside)
+}
+
+#[cycle(trees)]
+#[tactic(auto, unfolding(crate::specs::Expressions::unary_of))]
+fn unary(alloc: Global, operator: UnaryOperator, value: &Value) -> Result<Expression, ShapeError>
+    ensures { Reads result (unary_of (inside (view value.now)) operator (view value.now)) }
+{
+    shapes::null(value, "left")?;
+    let operand = Box::new(alloc, operand(alloc, value, "right")?)?;
+    Ok(Expression {
+        node: Node::Unary(operator, operand),
+    })
+}
+
+#[cycle(trees)]
+#[tactic(auto, unfolding(crate::specs::Expressions::binary_of))]
+fn binary(alloc: Global, operator: BinaryOperator, value: &Value) -> Result<Expression, ShapeError>
+    ensures { Reads result (binary_of (inside (view value.now)) operator (view value.now)) }
+{
+    let left = Box::new(alloc, operand(alloc, value, "left")?)?;
+    let right = Box::new(alloc, operand(alloc, value, "right")?)?;
+    Ok(Expression {
+        node: Node::Binary(operator, left, right),
+    })
+}
+
+#[cycle(trees)]
+#[tactic(auto, unfolding(crate::specs::Expressions::choice_of))]
+fn choice(alloc: Global, value: &Value) -> Result<Expression, ShapeError>
+    ensures { Reads result (choice_of (inside (view value.now)) (view value.now)) }
+{
+    let condition = Box::new(alloc, operand(alloc, value, "cond")?)?;
+    let left = Box::new(alloc, operand(alloc, value, "left")?)?;
+    let right = Box::new(alloc, operand(alloc, value, "right")?)?;
+    Ok(Expression {
+        node: Node::Choice(condition, left, right),
+    })
+}
+
+#[cycle(trees)]
+fn operation_with(alloc: Global, op: &str, value: &Value) -> Result<Expression, ShapeError>
+    ensures { Reads result (operation_with (inside (view value.now)) (operation_of op.now) op.now (view value.now)) }
+{
+    match kinds::operation_of(op) {
+        Some(Operation::Unary(operator)) => unary(alloc, operator, value),
+        Some(Operation::Binary(operator)) => binary(alloc, operator, value),
+        Some(Operation::Valid) => valid(alloc, value),
+        Some(Operation::Choice) => choice(alloc, value),
+        None => not_served(alloc, op),
     }
 }
 
-#[cycle(terms)]
-fn push_operator(
-    alloc: Global,
-    value: &Value,
-    op: &str,
-    levels: u32,
-    terms: &mut List<Term>,
-) -> Result<(), ShapeError>
-    ensures { Extends result terms.new (onto_operator (terms_onto levels) (operator_of op.now) op.now terms.old (view value.now)) }
+#[cycle(trees)]
+#[tactic(auto, unfolding(crate::specs::Expressions::operation, json_shapes::specs::Shapes::required))]
+fn operation(alloc: Global, value: &Value) -> Result<Expression, ShapeError>
+    ensures { Reads result (operation (inside (view value.now)) (view value.now)) }
 {
-    match kinds::operator_of(op) {
-        Some(operator) => {
-            push_operands(alloc, value, kinds::arity_of(operator), levels, terms)?;
-            terms.push(Term::Operator(operator))?;
-            Ok(())
-        }
-        None => {
-            let term = not_served(alloc, op)?;
-            terms.push(term)?;
-            Ok(())
-        }
-    }
-}
-
-#[cycle(terms)]
-#[tactic(auto, unfolding(crate::specs::Expressions::onto_operation, json_shapes::specs::Shapes::required))]
-fn push_operation(
-    alloc: Global,
-    value: &Value,
-    levels: u32,
-    terms: &mut List<Term>,
-) -> Result<(), ShapeError>
-    ensures { Extends result terms.new (onto_operation (terms_onto levels) terms.old (view value.now)) }
-{
-    if value.get("type").is_some() {
-        return push_terms(alloc, value, levels, terms);
-    }
     let Some(op) = value.get("op") else {
         return Err(ShapeError::Shape);
     };
     match op.as_str() {
-        Some(op) => push_operator(alloc, value, op, levels, terms),
+        Some(op) => operation_with(alloc, op, value),
         None => Err(ShapeError::Shape),
     }
 }
 
-#[cycle(terms)]
-fn push_kind(
-    alloc: Global,
-    value: &Value,
-    kind: ValueKind,
-    levels: u32,
-    terms: &mut List<Term>,
-) -> Result<(), ShapeError>
-    ensures { Extends result terms.new (onto_kind (terms_onto levels) kind terms.old (view value.now)) }
+#[cycle(trees)]
+fn value_with(alloc: Global, kind: ValueKind, value: &Value) -> Result<Expression, ShapeError>
+    ensures { Reads result (value_with (inside (view value.now)) kind (view value.now)) }
 {
-    let term = match kind {
-        ValueKind::Field => Term::Field(shapes::required(alloc, value, "value")?),
-        ValueKind::Literal => Term::Literal(shapes::required(alloc, value, "value")?),
-        ValueKind::Truth => Term::Truth(shapes::required(alloc, value, "value")?),
-        ValueKind::Datum => Term::Datum(shapes::required(alloc, value, "value")?),
-        ValueKind::LeftOut => Term::LeftOut,
-        ValueKind::Expression => {
-            return match value.get("value") {
-                Some(inside) => push_operation(alloc, inside, levels, terms),
-                None => Err(ShapeError::Shape),
-            };
-        }
+    let node = match kind {
+        ValueKind::Field => Node::Field(shapes::required(alloc, value, "value")?),
+        ValueKind::Literal => Node::Literal(shapes::required(alloc, value, "value")?),
+        ValueKind::Truth => Node::Truth(shapes::required(alloc, value, "value")?),
+        ValueKind::Datum => Node::Datum(shapes::required(alloc, value, "value")?),
+        ValueKind::LeftOut => Node::LeftOut,
+        ValueKind::Expression => return member(alloc, value, "value"),
         _ => return Err(ShapeError::Shape),
     };
-    terms.push(term)?;
-    Ok(())
+    Ok(Expression { node })
 }
 
-#[cycle(terms)]
-#[tactic(auto, unfolding(crate::specs::Expressions::terms_onto))]
-fn push_terms(
-    alloc: Global,
-    value: &Value,
-    levels: u32,
-    terms: &mut List<Term>,
-) -> Result<(), ShapeError>
-    ensures { Extends result terms.new (terms_onto levels terms.old (view value.now)) }
+#[cycle(trees)]
+#[tactic(auto, unfolding(crate::specs::Expressions::tree_with), using(crate::proofs::Recursion::recursion))]
+fn tree(alloc: Global, value: &Value) -> Result<Expression, ShapeError>
+    ensures { Reads result (tree_of (view value.now)) }
 {
-    if levels == 0 {
-        return Err(ShapeError::Shape);
+    if value.get("type").is_some() {
+        let kind = values::kind_of(value)?;
+        value_with(alloc, kind, value)
+    } else {
+        operation(alloc, value)
     }
-    let kind = values::kind_of(value)?;
-    push_kind(alloc, value, kind, levels - 1, terms)
 }
 
 impl FromJson for Expression {
@@ -181,8 +160,13 @@ impl FromJson for Expression {
 
     #[tactic(auto, unfolding(crate::specs::Expressions::expression_of))]
     fn from_json(alloc: Global, value: &Value) -> Result<Expression, ShapeError> {
-        let mut terms = List::new(alloc);
-        push_terms(alloc, value, LEVELS, &mut terms)?;
-        Ok(Expression { terms })
+        values::kind_of(value)?;
+        tree(alloc, value)
     }
 }
+
+/// The tree of a value is defined by the trees of the values in it.
+#[tactic(auto, using(crate::proofs::Recursion::recursion))]
+pub fn trees_are_of_their_parts()
+    ensures { IsRecursion }
+{}

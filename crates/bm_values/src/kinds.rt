@@ -1,8 +1,8 @@
 //! Kinds of values and operators, by their names in JSON.
 ghost use Rattle.std.specs.Prelude.{◌≡◌};
-ghost use Rattle.bm_values.specs.Kinds.{is_left_out_kind, value_kind, sum_operator, bit_operator, comparison, logic_operator, operator_of, is_left_out_operator, arity_of};
+ghost use Rattle.bm_values.specs.Kinds.{is_left_out_kind, value_kind, sum_operator, bit_operator, comparison, connective, binary_operator, unary_operator, operation_of, is_left_out_operator};
 
-use crate::raw::Operator;
+use crate::raw::{BinaryOperator, UnaryOperator};
 
 /// The kind of a value, by its `type` (BMv2 JSON form, "The type value object").
 #[derive(Clone, Copy)]
@@ -20,14 +20,15 @@ pub enum ValueKind {
     Other,
 }
 
-/// How many operands an operator has.
+/// An operation that is served.
 #[derive(Clone, Copy)]
-pub enum Arity {
-    Unary,
-    Binary,
+pub enum Operation {
+    Unary(UnaryOperator),
+    Binary(BinaryOperator),
+    /// `valid`
+    Valid,
+    /// `?`
     Choice,
-    /// One operand, which is a header.
-    OfHeader,
 }
 
 fn is_left_out_kind(kind: &str) -> bool
@@ -78,86 +79,73 @@ pub fn value_kind(kind: &str) -> ValueKind
     }
 }
 
-fn sum_operator(op: &str) -> Option<Operator>
+fn sum_operator(op: &str) -> Option<BinaryOperator>
     ensures { result ≡ sum_operator op.now }
 {
     if op == "+" {
-        Some(Operator::Add)
+        Some(BinaryOperator::Add)
     } else if op == "-" {
-        Some(Operator::Subtract)
+        Some(BinaryOperator::Subtract)
     } else if op == "*" {
-        Some(Operator::Multiply)
+        Some(BinaryOperator::Multiply)
     } else if op == "<<" {
-        Some(Operator::ShiftLeft)
+        Some(BinaryOperator::ShiftLeft)
     } else if op == ">>" {
-        Some(Operator::ShiftRight)
+        Some(BinaryOperator::ShiftRight)
     } else {
         None
     }
 }
 
-fn bit_operator(op: &str) -> Option<Operator>
+fn bit_operator(op: &str) -> Option<BinaryOperator>
     ensures { result ≡ bit_operator op.now }
 {
     if op == "&" {
-        Some(Operator::BitAnd)
+        Some(BinaryOperator::BitAnd)
     } else if op == "|" {
-        Some(Operator::BitOr)
+        Some(BinaryOperator::BitOr)
     } else if op == "^" {
-        Some(Operator::BitXor)
-    } else if op == "~" {
-        Some(Operator::BitNot)
+        Some(BinaryOperator::BitXor)
     } else {
         None
     }
 }
 
-fn comparison(op: &str) -> Option<Operator>
+fn comparison(op: &str) -> Option<BinaryOperator>
     ensures { result ≡ comparison op.now }
 {
     if op == "==" {
-        Some(Operator::Equal)
+        Some(BinaryOperator::Equal)
     } else if op == "!=" {
-        Some(Operator::NotEqual)
+        Some(BinaryOperator::NotEqual)
     } else if op == "<" {
-        Some(Operator::Less)
+        Some(BinaryOperator::Less)
     } else if op == "<=" {
-        Some(Operator::LessOrEqual)
+        Some(BinaryOperator::LessOrEqual)
     } else if op == ">" {
-        Some(Operator::Greater)
+        Some(BinaryOperator::Greater)
     } else if op == ">=" {
-        Some(Operator::GreaterOrEqual)
+        Some(BinaryOperator::GreaterOrEqual)
     } else {
         None
     }
 }
 
-fn logic_operator(op: &str) -> Option<Operator>
-    ensures { result ≡ logic_operator op.now }
+fn connective(op: &str) -> Option<BinaryOperator>
+    ensures { result ≡ connective op.now }
 {
     if op == "and" {
-        Some(Operator::And)
+        Some(BinaryOperator::And)
     } else if op == "or" {
-        Some(Operator::Or)
-    } else if op == "not" {
-        Some(Operator::Not)
-    } else if op == "d2b" {
-        Some(Operator::ToTruth)
-    } else if op == "b2d" {
-        Some(Operator::ToNumber)
-    } else if op == "valid" {
-        Some(Operator::Valid)
-    } else if op == "?" {
-        Some(Operator::Choose)
+        Some(BinaryOperator::Or)
     } else {
         None
     }
 }
 
-/// The operator of a name, if it is one that is served.
-#[tactic(auto, unfolding(crate::specs::Kinds::operator_of))]
-pub fn operator_of(op: &str) -> Option<Operator>
-    ensures { result ≡ operator_of op.now }
+#[tactic(auto, unfolding(crate::specs::Kinds::binary_operator))]
+fn binary_operator(op: &str) -> Option<BinaryOperator>
+    ensures { result ≡ binary_operator op.now }
 {
     if let Some(operator) = sum_operator(op) {
         return Some(operator);
@@ -168,7 +156,43 @@ pub fn operator_of(op: &str) -> Option<Operator>
     if let Some(operator) = comparison(op) {
         return Some(operator);
     }
-    logic_operator(op)
+    connective(op)
+}
+
+fn unary_operator(op: &str) -> Option<UnaryOperator>
+    ensures { result ≡ unary_operator op.now }
+{
+    if op == "~" {
+        Some(UnaryOperator::BitNot)
+    } else if op == "not" {
+        Some(UnaryOperator::Not)
+    } else if op == "d2b" {
+        Some(UnaryOperator::ToTruth)
+    } else if op == "b2d" {
+        Some(UnaryOperator::ToNumber)
+    } else {
+        None
+    }
+}
+
+/// The operation of a name, if it is one that is served.
+#[tactic(auto, unfolding(crate::specs::Kinds::operation_of))]
+pub fn operation_of(op: &str) -> Option<Operation>
+    ensures { result ≡ operation_of op.now }
+{
+    if op == "valid" {
+        return Some(Operation::Valid);
+    }
+    if op == "?" {
+        return Some(Operation::Choice);
+    }
+    if let Some(operator) = unary_operator(op) {
+        return Some(Operation::Unary(operator));
+    }
+    match binary_operator(op) {
+        Some(operator) => Some(Operation::Binary(operator)),
+        None => None,
+    }
 }
 
 /// Whether the operator of a name is one that is left out.
@@ -186,16 +210,4 @@ pub fn is_left_out_operator(op: &str) -> bool
         || op == "access_field"
         || op == "access_union_header"
         || op == "valid_union"
-}
-
-/// How many operands an operator has.
-pub fn arity_of(operator: Operator) -> Arity
-    ensures { result ≡ arity_of operator }
-{
-    match operator {
-        Operator::BitNot | Operator::Not | Operator::ToTruth | Operator::ToNumber => Arity::Unary,
-        Operator::Valid => Arity::OfHeader,
-        Operator::Choose => Arity::Choice,
-        _ => Arity::Binary,
-    }
 }

@@ -6,3 +6,5 @@ pub mod kinds;
 pub mod literals;
 pub mod raw;
 pub mod values;
+
+pub use expressions::trees_are_of_their_parts;

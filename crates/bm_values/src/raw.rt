@@ -1,6 +1,7 @@
 //! Values, literals, widths and expressions: what a program's JSON says, with references by name. A number or a form that
 //! the switch does not serve stands as left out, an operation that the profile does not know by its name.
-use list_types::{List, Text};
+use list_types::Text;
+use std::marker::Model;
 
 /// What is served, or a form that is left out.
 #[derive(Drop)]
@@ -31,9 +32,20 @@ pub struct FieldName {
 /// A field; one of a stack or a union, and what is looked up ahead, is left out.
 pub type RawField = Part<FieldName>;
 
-/// An operator of an expression.
+/// An operator with one operand.
 #[derive(Clone, Copy)]
-pub enum Operator {
+pub enum UnaryOperator {
+    BitNot,
+    Not,
+    /// `d2b`
+    ToTruth,
+    /// `b2d`
+    ToNumber,
+}
+
+/// An operator with two operands.
+#[derive(Clone, Copy)]
+pub enum BinaryOperator {
     Add,
     Subtract,
     Multiply,
@@ -42,7 +54,6 @@ pub enum Operator {
     BitAnd,
     BitOr,
     BitXor,
-    BitNot,
     Equal,
     NotEqual,
     Less,
@@ -51,34 +62,52 @@ pub enum Operator {
     GreaterOrEqual,
     And,
     Or,
-    Not,
-    /// `d2b`
-    ToTruth,
-    /// `b2d`
-    ToNumber,
-    Valid,
-    /// `?`, behind its condition and its two choices.
-    Choose,
 }
 
-/// An expression in postfix notation: an operator stands behind its operands.
+/// An expression. Contracts see it as a `Tree` of specs/Trees.antt.
+#[cycle(expression)]
 #[derive(Drop)]
 pub struct Expression {
-    pub terms: List<Term>,
+    pub node: Node,
 }
 
-/// A term of an expression.
+/// The root of an expression.
+#[cycle(expression)]
 #[derive(Drop)]
-pub enum Term {
+pub enum Node {
     Field(FieldName),
     Literal(RawLiteral),
     Truth(bool),
-    /// A header, of which `valid` asks.
-    Header(Part<Text>),
     /// The action's datum with this index.
     Datum(u64),
-    Operator(Operator),
+    /// `valid` of a header.
+    Valid(Part<Text>),
+    Unary(UnaryOperator, Box<Expression>),
+    Binary(BinaryOperator, Box<Expression>, Box<Expression>),
+    /// `?`: a condition, what is chosen where it holds, and what is chosen where not.
+    Choice(Box<Expression>, Box<Expression>, Box<Expression>),
     LeftOut,
     /// An operation of a name that is not known.
     Unknown(Text),
+}
+
+impl Model for Expression {
+    ghost use Rattle.bm_values.specs.Trees.{Tree};
+    ghost use Rattle.bm_values.specs.TreeCode.{tree_code};
+
+    ghost Value = { Tree };
+
+    ghost coded = { tree_code };
+
+    ghost use Rattle.bm_values.specs.Nodes.{tree_of_node};
+
+    ghost view = { λ e. tree_of_node e.node };
+
+    ghost use Rattle.bm_values.specs.Trees.{height};
+
+    ghost size = { height };
+
+    ghost use Rattle.bm_values.specs.TreesFall.{falls};
+
+    ghost size_decreases = { λ e h. falls e.node };
 }

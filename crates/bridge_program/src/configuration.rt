@@ -3,6 +3,7 @@ ghost use Rattle.std.specs.Prelude.{◌≡◌, IfOk};
 ghost use Rattle.plane_spec.specs.Bridge.{bridge_config, bridge_defaults};
 
 use crate::objects::{self, DROP, TABLE};
+use crate::pipeline::pipeline;
 use list_types::{List, NoMemory};
 use p4_types::keys::Arguments;
 use p4_types::table::{ActionCall, DefaultAction};
@@ -27,12 +28,13 @@ fn defaults(alloc: Global) -> Result<List<DefaultAction>, NoMemory>
     )
 }
 
-/// The bridge's configuration: the canonical bytes of its P4Info, no device configuration, and the cookie 0.
+/// The bridge's configuration: the canonical bytes of its P4Info, its pipeline, no device configuration, and the cookie 0.
 pub fn config(alloc: Global) -> Result<Config, NoMemory>
     ensures { IfOk result (λ config. config ≡ bridge_config) }
 {
     let info = objects::info(alloc)?;
     let p4info = write_info(alloc, &info)?;
+    let pipeline = pipeline(alloc)?;
     let defaults = defaults(alloc)?;
-    Ok(Config::new(p4info, List::new(alloc), 0, info, defaults))
+    Ok(Config::new(p4info, List::new(alloc), 0, info, pipeline, defaults))
 }

@@ -4,5 +4,6 @@
 mod configuration;
 pub mod laws;
 mod objects;
+mod pipeline;
 
 pub use configuration::config;

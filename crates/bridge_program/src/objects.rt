@@ -11,7 +11,7 @@ use std::alloc::Global;
 
 pub(crate) const TABLE: u32 = 0x0200_0001;
 
-const FORWARD: u32 = 0x0100_0001;
+pub(crate) const FORWARD: u32 = 0x0100_0001;
 
 pub(crate) const DROP: u32 = 0x0100_0002;
 

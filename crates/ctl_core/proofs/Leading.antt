@@ -1,5 +1,5 @@
 -- The events of a call lead to what it changed.
-use Rattle.std.proofs.Common.{◌≡◌, ℕ, Bool, true, false, cond, List, [], ◌∷◌, map, fold, Result, Ok, Err, if◌then◌else◌, refl, ap, ◌∙◌, sym, subst}
+use Rattle.std.proofs.Common.{◌≡◌, Bool, true, false, cond, List, [], ◌∷◌, map, fold, Result, Ok, Err, if◌then◌else◌, refl, ◌∙◌, sym, subst}
 use Rattle.std.specs.List.{filter_map}
 use Rattle.std.specs.Result.{result_ok}
 use Rattle.p4_types.specs.declared.code.Cause.{Cause}

@@ -1,9 +1,10 @@
 //! The answers to calls, before their events are handed on.
 ghost use Rattle.std.specs.Prelude.{◌≡◌, ◌∷◌, [], false, IfOk};
+ghost use Rattle.std.specs.Option.{option_copied};
 ghost use Rattle.switch_spec.specs.Answer.{write_refusal, write_answer, written, unreadable, plain, failed, read_reply, answer_to, is_atomic, atomicity_of, outcomes, no_figures};
 ghost use Rattle.switch_spec.specs.Status.{capabilities_bytes};
 ghost use Rattle.plane_spec.specs.Legal.{Legal};
-ghost use Rattle.plane_spec.specs.Planes.{primary, is_of_primary, applied};
+ghost use Rattle.plane_spec.specs.Planes.{primary as primary_session, is_of_primary, scope_of, applied};
 ghost use Rattle.switch_spec.specs.History.{is_unavailable};
 ghost use Rattle.switch_spec.specs.Reading.{read_result};
 ghost use Rattle.ctl_core.specs.Prepared.{IsPrepared, Leads, Made};
@@ -15,19 +16,19 @@ use p4_types::calls::{Call, Method};
 use p4_types::code::Code;
 use p4_types::events::{Event, Origin};
 use p4_types::messages::{ReadRequest, Uint128, WriteRequest};
-use plane_image::Image;
+use plane_image::{Image, Scope};
 use plane_state::Config;
-use role_arbiter::election_number;
+use role_arbiter::{Session, election_number};
 use std::alloc::Global;
 
 /// How many updates a Write may have.
 const UPDATES: usize = 4_096;
 
 // Whether an election id is that of the role's primary, and not 0.
-fn is_of_primary(image: &Image, role: u64, id: Uint128) -> bool
-    ensures { result ≡ is_of_primary (primary image.now.now role) id }
+fn is_of_primary(primary: Option<&Session>, id: Uint128) -> bool
+    ensures { result ≡ is_of_primary (option_copied primary.entry) id }
 {
-    match image.roles().primary_session(role) {
+    match primary {
         None => false,
         Some(primary) => {
             election_number(primary.election_id) == election_number(id) && election_number(id) != 0
@@ -35,14 +36,15 @@ fn is_of_primary(image: &Image, role: u64, id: Uint128) -> bool
     }
 }
 
-// Why a Write is refused whole.
-fn write_refusal(image: &Image, request: &WriteRequest) -> Option<Code>
+// Why a Write is refused whole, where its role has this primary, or none.
+fn write_refusal(image: &Image, primary: Option<&Session>, request: &WriteRequest) -> Option<Code>
+    requires { option_copied primary ≡ primary_session image.now.now request.now.role_id }
     ensures { result ≡ write_refusal image.now.now request.now }
 {
     if request.device_id != image.device() {
         return Some(Code::NotFound);
     }
-    if !is_of_primary(image, request.role_id, request.election_id) {
+    if !is_of_primary(primary, request.election_id) {
         return Some(Code::PermissionDenied);
     }
     if image.target().is_none() {
@@ -70,19 +72,22 @@ fn failure(alloc: Global, code: Code) -> Result<Prepared, NoMemory>
     })
 }
 
-// What the updates of a Write answer, which are made in the image.
+// What the updates of a Write answer, which are made in the image, where the role's primary may write what the scope says.
 fn updated(
     alloc: Global,
     image: &mut Image,
     by: Origin,
+    scope: &Scope,
     request: &WriteRequest,
 ) -> Result<Prepared, NoMemory>
+    requires role { scope.now.role ≡ request.now.role_id }
+    requires scope { scope.now.ids ≡ scope_of image.old.now scope.now.role }
     ensures answer { IfOk result (λ p. IsPrepared (written (is_atomic (atomicity_of request.now.atomicity)) by (outcomes image.old.now request.now.role_id request.now.updates)) p) }
     ensures made { IfOk result (λ p. Made image.old.now image.new.now p.events) }
     ensures before { image.new.before ≡ image.old.before }
     ensures steps { image.new.steps ≡ image.old.steps }
 {
-    let outcomes = image.updates(alloc, request.role_id, request.updates.as_slice())?;
+    let outcomes = image.updates(alloc, scope, request.updates.as_slice())?;
     let atomic = writes::is_atomic(writes::atomicity_of(request.atomicity));
     let answer = writes::written(alloc, atomic, by, outcomes)?;
     Ok(answer)
@@ -113,16 +118,18 @@ fn write(
     ensures before { image.new.before ≡ image.old.before }
     ensures steps { image.new.steps ≡ image.old.steps }
 {
-    if let Some(code) = write_refusal(image, request) {
+    let primary = image.roles().primary_session(request.role_id);
+    if let Some(code) = write_refusal(image, primary, request) {
         return failure(alloc, code);
     }
+    let scope = Scope::of(request.role_id, primary);
     let by = Origin {
         caller: lane,
         call,
         role: request.role_id,
         election_id: request.election_id,
     };
-    let prepared = updated(alloc, image, by, request)?;
+    let prepared = updated(alloc, image, by, &scope, request)?;
     undo_without(image, prepared.events.as_slice());
     Ok(prepared)
 }

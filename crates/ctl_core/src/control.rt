@@ -29,6 +29,10 @@ pub struct Control {
 
 impl Model for Control {
     ghost use Rattle.ctl_core.specs.Core.{Core, IsSettled};
+    ghost use Rattle.bm_expr.specs.TreeCode.{number_code, truth_code};
+    ghost use Rattle.std.specs.Coded.{codes};
+
+    ghost coded = { Prim.hlevel (codes, number_code, truth_code) };
 
     ghost Value = { Core };
 

@@ -1,7 +1,8 @@
 //! The stream channel: who may write, and what controllers are told of it.
 ghost use Rattle.std.specs.Prelude.{◌≡◌, [], IfOk};
 ghost use Rattle.switch_spec.specs.Answer.{arbitration_answer, unserved_answer, stream_answer, leave_answer};
-ghost use Rattle.switch_spec.specs.Notices.{role_told, standing, standing_notices, unserved};
+ghost use Rattle.switch_spec.specs.Notices.{role_told, standing_notices, unserved};
+ghost use Rattle.ctl_core.specs.Messages.{standing_by};
 ghost use Rattle.ctl_core.specs.Prepared.{IsPrepared, Leads};
 
 use crate::calls::bare;
@@ -15,10 +16,10 @@ use p4_types::events::{Event, Origin};
 use p4_types::ids::Ids;
 use p4_types::messages::{
     Any, MasterArbitrationUpdate, Role, Status, StreamError, StreamErrorDetails,
-    StreamMessageRequest, StreamMessageResponse,
+    StreamMessageRequest, StreamMessageResponse, Uint128,
 };
 use plane_image::Image;
-use role_arbiter::Roles;
+use role_arbiter::{Roles, status_by};
 use std::alloc::Global;
 
 // The role of a notice: its id alone, and none where it is 0.
@@ -34,21 +35,20 @@ fn role_told(role: u64) -> Option<Role>
     })
 }
 
-// What a session of a role is told.
+// What a session is told of a role whose greatest election id is this one.
 fn standing(
     alloc: Global,
     device: u64,
-    roles: &Roles,
     role: u64,
-    lane: u16,
+    greatest: Uint128,
+    code: Code,
 ) -> MasterArbitrationUpdate
-    ensures { result ≡ standing device roles.now role lane }
+    ensures { result ≡ standing_by device role greatest code }
 {
-    let code = roles.standing(role, lane);
     MasterArbitrationUpdate {
         device_id: device,
         role: role_told(role),
-        election_id: roles.greatest(role),
+        election_id: greatest,
         status: Some(Status {
             code: i32::from(code.number()),
             message: messages::empty_text(alloc),
@@ -67,13 +67,14 @@ fn standing_notices(
 ) -> Result<List<Notice>, NoMemory>
     ensures { IfOk result (λ list. list ≡ standing_notices device roles.now role lanes.now) }
 {
+    let primary = roles.primary_session(role);
+    let greatest = roles.greatest(role);
     let mut list = List::new(alloc);
     for lane in lanes {
+        let told = standing(alloc, device, role, greatest, status_by(primary, *lane));
         list.push(Notice {
             lane: *lane,
-            message: StreamMessageResponse::Arbitration(standing(
-                alloc, device, roles, role, *lane,
-            )),
+            message: StreamMessageResponse::Arbitration(told),
         })?;
     }
     Ok(list)
@@ -137,19 +138,19 @@ fn arbitration(
     if update.device_id != image.device() {
         return Ok(bare(alloc, ArbitrationRule::A1.code()));
     }
-    let session = match image.roles().check(lane, update) {
-        Ok(session) => session,
+    let new = match image.roles().check(lane, update) {
+        Ok(new) => new,
         Err(rule) => return Ok(bare(alloc, rule.code())),
     };
-    let role = session.role;
+    let role = new.session.role;
     let by = Origin {
         caller: lane,
         call,
         role,
-        election_id: session.election_id,
+        election_id: new.session.election_id,
     };
-    let config = copied(&session.config);
-    let lanes = image.enter(session);
+    let config = copied(&new.session.config);
+    let lanes = image.enter(new);
     let notices = standing_notices(alloc, image.device(), image.roles(), role, lanes.as_slice())?;
     Ok(Prepared {
         code: Code::Ok,

@@ -1,16 +1,16 @@
 //! Operators of expressions.
 ghost use Rattle.std.specs.Prelude.{◌≡◌, [], IfOk};
 ghost use Rattle.bm_expr.specs.Meaning.{NumberInStore, TruthInStore};
-ghost use Rattle.bm_expr.specs.declared.expression.Number.TheVariants.{Literal};
+ghost use Rattle.bm_expr.specs.Trees.{Literal};
 
-use bm_expr::{Number, Store, Truth, truth, value};
+use bm_expr::{Number, NumberNode, Store, Truth, TruthNode, truth, value};
 use row_lines::{NoAnswer, tell};
 use std::alloc::Global;
 
 fn literal(alloc: Global, value: u128) -> Result<Box<Number>, NoAnswer>
     ensures { IfOk result (λ number. number.value ≡ Literal value) }
 {
-    Ok(Box::new(alloc, Number::Literal(value))?)
+    Ok(Box::new(alloc, Number::new(NumberNode::Literal(value)))?)
 }
 
 fn operation(alloc: Global, operator: &str, left: u128, right: u128) -> Result<Number, NoAnswer>
@@ -19,14 +19,14 @@ fn operation(alloc: Global, operator: &str, left: u128, right: u128) -> Result<N
     let a = literal(alloc, left)?;
     let b = literal(alloc, right)?;
     Ok(match operator {
-        "+" => Number::Add(a, b),
-        "-" => Number::Subtract(a, b),
-        "*" => Number::Multiply(a, b),
-        "<<" => Number::ShiftLeft(a, b),
-        ">>" => Number::ShiftRight(a, b),
-        "&" => Number::BitAnd(a, b),
-        "|" => Number::BitOr(a, b),
-        "^" => Number::BitXor(a, b),
+        "+" => Number::new(NumberNode::Add(a, b)),
+        "-" => Number::new(NumberNode::Subtract(a, b)),
+        "*" => Number::new(NumberNode::Multiply(a, b)),
+        "<<" => Number::new(NumberNode::ShiftLeft(a, b)),
+        ">>" => Number::new(NumberNode::ShiftRight(a, b)),
+        "&" => Number::new(NumberNode::BitAnd(a, b)),
+        "|" => Number::new(NumberNode::BitOr(a, b)),
+        "^" => Number::new(NumberNode::BitXor(a, b)),
         _ => return Err(NoAnswer),
     })
 }
@@ -53,12 +53,12 @@ fn comparison(alloc: Global, operator: u8, left: u128, right: u128) -> Result<Tr
     let a = literal(alloc, left)?;
     let b = literal(alloc, right)?;
     Ok(match operator {
-        0 => Truth::Equal(a, b),
-        1 => Truth::NotEqual(a, b),
-        2 => Truth::Less(a, b),
-        3 => Truth::LessOrEqual(a, b),
-        4 => Truth::Greater(a, b),
-        _ => Truth::GreaterOrEqual(a, b),
+        0 => Truth::new(TruthNode::Equal(a, b)),
+        1 => Truth::new(TruthNode::NotEqual(a, b)),
+        2 => Truth::new(TruthNode::Less(a, b)),
+        3 => Truth::new(TruthNode::LessOrEqual(a, b)),
+        4 => Truth::new(TruthNode::Greater(a, b)),
+        _ => Truth::new(TruthNode::GreaterOrEqual(a, b)),
     })
 }
 

@@ -1,8 +1,11 @@
 // Stores, and expressions over them.
 ghost use Rattle.std.specs.Prelude.{◌≡◌, IfOk};
-ghost use Rattle.bm_expr.specs.declared.expression.Number.TheVariants.{Literal};
+ghost use Rattle.bm_expr.specs.Trees.{Literal};
 
-use bm_expr::{FieldPlace, Number, Store, Truth, is_settled, settled, settled_truth, value};
+use bm_expr::{
+    FieldPlace, Number, NumberNode, Store, Truth, TruthNode, is_settled, settled, settled_truth,
+    value,
+};
 use list_types::NoMemory;
 use std::alloc::Global;
 use std::test::Fail;
@@ -10,7 +13,7 @@ use std::test::Fail;
 fn literal(alloc: Global, value: u128) -> Result<Box<Number>, NoMemory>
     ensures { IfOk result (λ number. number.value ≡ Literal value) }
 {
-    Ok(Box::new(alloc, Number::Literal(value))?)
+    Ok(Box::new(alloc, Number::new(NumberNode::Literal(value)))?)
 }
 
 // A field is 0 while its header is invalid, is cut to its width, and keeps its number.
@@ -33,14 +36,14 @@ fn fields_of_a_store(rt: HostRuntime) -> Result<(), Fail> {
 #[test]
 fn settled_expressions(rt: HostRuntime) -> Result<(), Fail> {
     let alloc = rt.alloc();
-    let difference = Number::Subtract(literal(alloc, 1)?, literal(alloc, 2)?);
+    let difference = Number::new(NumberNode::Subtract(literal(alloc, 1)?, literal(alloc, 2)?));
     assert!(rt; settled(&difference) && !is_settled(&difference));
-    let cut = Number::BitAnd(Box::new(alloc, difference)?, literal(alloc, 15)?);
+    let cut = Number::new(NumberNode::BitAnd(Box::new(alloc, difference)?, literal(alloc, 15)?));
     assert!(rt; settled(&cut) && is_settled(&cut));
-    let good = Truth::Less(Box::new(alloc, cut)?, literal(alloc, 3)?);
+    let good = Truth::new(TruthNode::Less(Box::new(alloc, cut)?, literal(alloc, 3)?));
     assert!(rt; settled_truth(&good));
-    let sum = Number::Add(literal(alloc, 1)?, literal(alloc, 2)?);
-    let bad = Truth::Less(Box::new(alloc, sum)?, literal(alloc, 3)?);
+    let sum = Number::new(NumberNode::Add(literal(alloc, 1)?, literal(alloc, 2)?));
+    let bad = Truth::new(TruthNode::Less(Box::new(alloc, sum)?, literal(alloc, 3)?));
     assert!(rt; !settled_truth(&bad));
     Ok(())
 }
@@ -50,8 +53,8 @@ fn settled_expressions(rt: HostRuntime) -> Result<(), Fail> {
 fn choices(rt: HostRuntime) -> Result<(), Fail> {
     let alloc = rt.alloc();
     let mut store = Store::open(alloc, 0, 1)?;
-    let condition = Box::new(alloc, Truth::IsValid(0))?;
-    let choice = Number::Choose(condition, literal(alloc, 7)?, literal(alloc, 8)?);
+    let condition = Box::new(alloc, Truth::new(TruthNode::IsValid(0)))?;
+    let choice = Number::new(NumberNode::Choose(condition, literal(alloc, 7)?, literal(alloc, 8)?));
     assert!(rt; value(&choice, &store, &[]) == 8);
     store.set_valid(0, true);
     assert!(rt; value(&choice, &store, &[]) == 7);

@@ -6,7 +6,7 @@ use p4_types::calls::{Call, Method};
 use p4_types::events::Start;
 use p4_types::messages::Update;
 use p4v1_read::read_call;
-use plane_image::Image;
+use plane_image::{Image, Scope};
 use std::alloc::Global;
 use std::test::Fail;
 
@@ -51,7 +51,8 @@ fn make(
     updates: &[Update],
     told: &mut String,
 ) -> Result<(), NoMemory> {
-    let outcomes = image.updates(alloc, 0, updates)?;
+    let scope = Scope::of(0, image.roles().primary_session(0));
+    let outcomes = image.updates(alloc, &scope, updates)?;
     for outcome in outcomes.as_slice() {
         match outcome {
             Ok(_) => say(told, "ok "),

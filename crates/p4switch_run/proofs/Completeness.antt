@@ -1,5 +1,5 @@
 -- A tape within the limits is reported, unless the source or the sink fails or memory is out.
-use Rattle.std.proofs.Common.{◌≡◌, ℕ, ◌≤◌, List, length, Option, None, Some, Ok, Err, refl, ap, ◌∙◌, sym, subst, ◌⊎◌, inl, inr, arith, length-append}
+use Rattle.std.proofs.Common.{◌≡◌, ℕ, ◌<◌, ◌≤◌, List, length, Option, None, Some, Ok, Err, refl, ap, ◌∙◌, sym, subst, ◌⊎◌, inl, inr, arith, length-append}
 use Rattle.p4_types.specs.declared.tape.TapeRecord.{TapeRecord}
 use Rattle.sw_edge.proofs.ToldLaws.{Consumes-all}
 use Rattle.sw_edge.specs.Counts.{Rose}
@@ -14,9 +14,11 @@ use Rattle.tape_form.specs.declared.fault.TapeFault.{TapeFault}
 use Rattle.tape_form.specs.declared.fault.TapeFault.TheVariants as faults
 use Rattle.p4switch_run.specs.declared.status.Status.{Status}
 use Rattle.p4switch_run.specs.declared.status.Status.TheVariants as statuses
-use Rattle.p4switch_run.specs.Command.{IsCommand, status_number}
-use Rattle.p4switch_run.specs.Replay.{Streams}
-use Rattle.p4switch_run.specs.Run.{Ends, HoldsTape}
+use Rattle.p4_types.specs.declared.events.Start.{Start}
+use Rattle.p4switch_run.specs.Check.{Checks}
+use Rattle.p4switch_run.specs.Command.{status_number}
+use Rattle.p4switch_run.specs.Replay.{Streams, Answers}
+use Rattle.p4switch_run.specs.Run.{HoldsTape, HoldsBytes}
 
 -- no more is taken than there is
 taken_within : (bytes : List ℕ) (new : Option (List ℕ)) (taken : List ℕ) → Consumes (Some bytes) new taken → length taken ≤ length bytes
@@ -44,14 +46,32 @@ not_refused left new before now fault holds sound taken consumed h =
     (tape_is_read MAX_RECORDS holds.bytes holds.records holds.tape holds.count) holds.size (subst P holds.left_is consumed) sound h.so h.within h.same
 
 -- the statuses that are left
-pub complete : (status : Status) (words : List (List ℕ)) (old new : Streams) → Ends status words old new → IsCommand words → HoldsTape old.left
+pub complete : (status : Status) (start : Start) (old new : Streams) → Answers start status old new → HoldsTape old.left
     → (Rose old.read_faults new.read_faults → ⊥) → (Rose old.write_faults new.write_faults → ⊥) → (status_number status ≡ 0) ⊎ (status_number status ≡ 3)
-complete statuses.Done words old new ends command holds reads writes = inl refl
-complete (statuses.NotATape place) words old new ends command holds reads writes =
-    let read = ends.answers.«because».1 in absurd (not_refused old.left new.left _ _ (faults.Bad place) holds reads read.taken read.from.consumed read.answers)
-complete statuses.WordsRefused words old new ends command holds reads writes = absurd (ends.0 command)
-complete statuses.NoMemory words old new ends command holds reads writes = inr refl
-complete statuses.ReadFault words old new ends command holds reads writes = absurd (reads ends.answers.«because»)
-complete statuses.WriteFault words old new ends command holds reads writes = absurd (writes ends.answers.fault)
-complete statuses.TooLong words old new ends command holds reads writes =
-    let read = ends.answers.«because».1 in absurd (not_refused old.left new.left _ _ faults.TooLong holds reads read.taken read.from.consumed read.answers)
+complete statuses.Done start old new ends holds reads writes = inl refl
+complete (statuses.NotATape place) start old new ends holds reads writes =
+    let read = ends.«because».1 in absurd (not_refused old.left new.left _ _ (faults.Bad place) holds reads read.taken read.from.consumed read.answers)
+complete statuses.WordsRefused start old new ends holds reads writes = absurd ends
+complete statuses.NoMemory start old new ends holds reads writes = inr refl
+complete statuses.ReadFault start old new ends holds reads writes = absurd (reads ends.«because»)
+complete statuses.WriteFault start old new ends holds reads writes = absurd (writes ends.fault)
+complete statuses.TooLong start old new ends holds reads writes =
+    let read = ends.«because».1 in absurd (not_refused old.left new.left _ _ faults.TooLong holds reads read.taken read.from.consumed read.answers)
+complete statuses.Refused start old new ends holds reads writes = absurd ends
+
+past_within : (bytes taken : List ℕ) → length taken ≤ length bytes → length bytes ≤ 67108864 → 67108864 < length taken → ⊥
+past_within bytes taken within size past = omega (arith, within, size, past)
+
+-- the same of a check
+pub checked : (status : Status) (old new : Streams) → Checks status old new → HoldsBytes old.left
+    → (Rose old.read_faults new.read_faults → ⊥) → (Rose old.write_faults new.write_faults → ⊥) → (status_number status ≡ 0) ⊎ ((status_number status ≡ 3) ⊎ (status_number status ≡ 8))
+checked statuses.Done old new ends holds reads writes = inl refl
+checked (statuses.NotATape place) old new ends holds reads writes = absurd ends
+checked statuses.WordsRefused old new ends holds reads writes = absurd ends
+checked statuses.NoMemory old new ends holds reads writes = inr (inl refl)
+checked statuses.ReadFault old new ends holds reads writes = absurd (reads ends.«because»)
+checked statuses.WriteFault old new ends holds reads writes = absurd (writes ends.fault)
+checked statuses.TooLong old new ends holds reads writes =
+    let P : Option (List ℕ) → Type 0 = λ l. Consumes l new.left ends.«because».taken in
+    absurd (past_within holds.bytes ends.«because».taken (taken_within holds.bytes new.left ends.«because».taken (subst P holds.left_is ends.«because».consumed)) holds.size ends.«because».past)
+checked statuses.Refused old new ends holds reads writes = inr (inr refl)

@@ -1,4 +1,7 @@
 pub mod Completeness
+pub mod Endings
+pub mod Numbers
+pub mod Options
 pub mod ReplayLemmas
 pub mod SessionBounds
 pub mod SessionLemmas

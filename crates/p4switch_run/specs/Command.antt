@@ -1,18 +1,24 @@
--- The words of the command line, and the lines on standard error (this project's profile).
-use Rattle.std.specs.Prelude.{◌≡◌, ◌⊎◌, ℕ, Bool, true, false, List, [], ◌∷◌, ◌++◌, codes}
+-- What the words of the command line ask for, and the lines on standard error (this project's profile).
+use Rattle.std.specs.Prelude.{◌≡◌, ℕ, List, [], ◌++◌, Some, codes}
 use Rattle.std.specs.Fmt.{decimal}
+use Rattle.p4_types.specs.declared.events.Start.{Start}
 use Rattle.p4switch_run.specs.declared.status.Status.{Status}
 use Rattle.p4switch_run.specs.declared.status.Status.TheVariants as statuses
+use Rattle.p4switch_run.specs.declared.words.Job.{Job}
+use Rattle.p4switch_run.specs.declared.words.Job.TheVariants as jobs
+use Rattle.p4switch_run.specs.Words.{command_of, built}
 
--- the words, behind the program's name, of a replay in lockstep, with the bridge or without it; the options come in any order
-abbrev pub IsReplay : Bool → List (List ℕ) → Type 0
-IsReplay false words = words ≡ codes "replay" ∷ codes "--lockstep" ∷ []
-IsReplay true words =
-    (words ≡ codes "replay" ∷ codes "--lockstep" ∷ codes "--bridge" ∷ []) ⊎ (words ≡ codes "replay" ∷ codes "--bridge" ∷ codes "--lockstep" ∷ [])
+-- the words, behind the program's name, ask for a replay in lockstep that starts so
+abbrev pub IsReplay : Start → List (List ℕ) → Type 0
+IsReplay start words = built (command_of words) ≡ Some (jobs.Replay start)
 
--- the words are in the grammar
+-- the words ask for the check of a configuration
+abbrev pub IsCheck : List (List ℕ) → Type 0
+IsCheck words = built (command_of words) ≡ Some jobs.Check
+
+-- the words are a command that is built
 abbrev pub IsCommand : List (List ℕ) → Type 0
-IsCommand words = (bridge : Bool) × IsReplay bridge words
+IsCommand words = (job : Job) × (built (command_of words) ≡ Some job)
 
 -- the exit status
 abbrev pub status_number : Status → ℕ
@@ -23,6 +29,7 @@ status_number statuses.NoMemory = 3
 status_number statuses.ReadFault = 4
 status_number statuses.WriteFault = 5
 status_number statuses.TooLong = 6
+status_number statuses.Refused = 8
 
 -- what is said of it, if anything
 abbrev pub status_line : Status → List ℕ
@@ -33,3 +40,4 @@ status_line statuses.NoMemory = codes "p4switch: no memory\n"
 status_line statuses.ReadFault = codes "p4switch: read fault\n"
 status_line statuses.WriteFault = codes "p4switch: write fault\n"
 status_line statuses.TooLong = codes "p4switch: tape too long\n"
+status_line statuses.Refused = []

@@ -61,6 +61,7 @@ Answers start statuses.NoMemory old new = Nothing old new ⊤
 Answers start statuses.ReadFault old new = Nothing old new (Rose old.read_faults new.read_faults)
 Answers start statuses.WriteFault old new = IsCutShort start old new
 Answers start statuses.TooLong old new = Nothing old new (IsTooLong old.left new.left × ReadWith faults.TooLong old new)
+Answers start statuses.Refused old new = ⊥
 
 -- the text is the report of a run of these records
 pub record IsTextOf (start : Start) (records : List TapeRecord) (text : List ℕ) : Type 0 where

@@ -1,43 +1,56 @@
 -- What the exit status of a run says.
-use Rattle.std.specs.Prelude.{◌≡◌, ℕ, ◌≤◌, Bool, List, length, Option, Some}
+use Rattle.std.specs.Prelude.{◌≡◌, ℕ, ◌≤◌, List, length, Option, None, Some}
+use Rattle.p4_types.specs.declared.events.Start.{Start}
 use Rattle.p4_types.specs.declared.tape.TapeRecord.{TapeRecord}
 use Rattle.sw_edge.specs.declared.answers.Sent.{Sent}
 use Rattle.switch_spec.specs.Tape.{IsTape}
 use Rattle.tape_form.specs.TapeRead.{IsBadAt}
 use Rattle.p4switch_run.specs.declared.status.Status.{Status}
 use Rattle.p4switch_run.specs.declared.status.Status.TheVariants as statuses
-use Rattle.p4switch_run.specs.Command.{IsReplay, IsCommand, status_number, status_line}
+use Rattle.p4switch_run.specs.declared.words.Job.{Job}
+use Rattle.p4switch_run.specs.declared.words.Job.TheVariants as jobs
+use Rattle.p4switch_run.specs.Check.{Checks, IsJudged, IsJudgedShort, IsRefused}
+use Rattle.p4switch_run.specs.Command.{IsReplay, IsCheck, status_number, status_line}
+use Rattle.p4switch_run.specs.Words.{command_of, built}
 use Rattle.p4switch_run.specs.Replay.{Streams, Answers, IsWritten, IsCutShort}
-use Rattle.p4switch_run.specs.Starts.{start_of}
 use Rattle.p4switch_run.specs.Tell.{IsSaid}
 
--- The words ask for a replay with this start, or without it, and it was answered so.
-pub record IsRun (status : Status) (words : List (List ℕ)) (old new : Streams) : Type 0 where
-  pub bridge : Bool
-  pub command : IsReplay bridge words
-  pub answers : Answers (start_of bridge) status old new
+-- What a job says of its answer. Without one the words are refused, and all is left as it was.
+abbrev pub EndsBy : Option Job → Status → Streams → Streams → Type 0
+EndsBy None status old new = (status ≡ statuses.WordsRefused) × (new ≡ old)
+EndsBy (Some (jobs.Replay start)) status old new = Answers start status old new
+EndsBy (Some jobs.Check) status old new = Checks status old new
 
--- What each status says of the words and of what was read and written. Refused words leave all as it was.
+-- what the answer to these words says of what was read and written
 abbrev pub Ends : Status → List (List ℕ) → Streams → Streams → Type 0
-Ends statuses.Done words old new = IsRun statuses.Done words old new
-Ends (statuses.NotATape place) words old new = IsRun (statuses.NotATape place) words old new
-Ends statuses.WordsRefused words old new = (IsCommand words → ⊥) × (new ≡ old)
-Ends statuses.NoMemory words old new = IsRun statuses.NoMemory words old new
-Ends statuses.ReadFault words old new = IsRun statuses.ReadFault words old new
-Ends statuses.WriteFault words old new = IsRun statuses.WriteFault words old new
-Ends statuses.TooLong words old new = IsRun statuses.TooLong words old new
+Ends status words old new = EndsBy (built (command_of words)) status old new
 
 -- the report of the replay that the words ask for was written
 pub record Reports (words : List (List ℕ)) (old new : Streams) : Type 0 where
-  pub bridge : Bool
-  pub command : IsReplay bridge words
-  pub written : IsWritten (start_of bridge) old new
+  pub start : Start
+  pub command : IsReplay start words
+  pub written : IsWritten start old new
 
 -- some first bytes of it were
 pub record Breaks (words : List (List ℕ)) (old new : Streams) : Type 0 where
-  pub bridge : Bool
-  pub command : IsReplay bridge words
-  pub cut : IsCutShort (start_of bridge) old new
+  pub start : Start
+  pub command : IsReplay start words
+  pub cut : IsCutShort start old new
+
+-- the words ask for a check, and it found no rule that is broken
+pub record Approves (words : List (List ℕ)) (old new : Streams) : Type 0 where
+  pub command : IsCheck words
+  pub judged : IsJudged None old new
+
+-- the words ask for a check, and some first bytes of its line were written
+pub record BreaksLine (words : List (List ℕ)) (old new : Streams) : Type 0 where
+  pub command : IsCheck words
+  pub short : IsJudgedShort old new
+
+-- the words ask for a check, and it found a rule that is broken
+pub record Rejects (words : List (List ℕ)) (old new : Streams) : Type 0 where
+  pub command : IsCheck words
+  pub refused : IsRefused old new
 
 -- a sink of lines before and after: what it was sent, and how often it has failed
 pub record Lines : Type 0 where
@@ -75,3 +88,9 @@ pub record HoldsTape (left : Option (List ℕ)) : Type 0 where
   pub tape : IsTape bytes records
   pub size : length bytes ≤ 67108864
   pub count : length records ≤ 1000000
+
+-- what is left is told, and is no more than a configuration may have
+pub record HoldsBytes (left : Option (List ℕ)) : Type 0 where
+  pub bytes : List ℕ
+  pub left_is : left ≡ Some bytes
+  pub size : length bytes ≤ 67108864

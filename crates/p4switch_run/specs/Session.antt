@@ -1,5 +1,5 @@
 -- The run so far as the program keeps it.
-use Rattle.std.specs.Prelude.{◌≡◌, ℕ, ◌+◌, ◌-◌, ◌*◌, ◌^◌, ◌<◌, ◌≤◌, ◌==◌, ◌⊎◌, List, [], ◌∷◌, ◌++◌, drop, length, slice_index, set}
+use Rattle.std.specs.Prelude.{◌≡◌, ℕ, ◌-◌, ◌*◌, ◌^◌, ◌<◌, ◌≤◌, ◌==◌, ◌⊎◌, List, [], ◌∷◌, ◌++◌, drop, length, slice_index, set}
 use Rattle.std.specs.List.{filter_map}
 use Rattle.p4_types.specs.declared.calls.Call as calls
 use Rattle.p4_types.specs.declared.calls.Reply.{Reply}

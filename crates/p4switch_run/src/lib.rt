@@ -1,7 +1,7 @@
 //! The switch as a program: the words of its command line, and what it does with them.
 #![tactic(auto)]
 
-mod command;
+mod check;
 mod journal;
 mod program;
 mod published;
@@ -9,5 +9,6 @@ mod replay;
 mod session;
 mod status;
 mod tell;
+mod words;
 
 pub use program::{end_without_memory, run};

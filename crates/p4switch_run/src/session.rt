@@ -1,7 +1,7 @@
 //! A run in lockstep: calls are answered and packets carried, one after another.
 ghost use Rattle.std.specs.Prelude.{◌≡◌, ◌<◌, ◌≤◌, ◌+◌, ◌++◌, [], ◌∷◌, length, map, All, OnOk, IfOk};
 ghost use Rattle.p4v1_read.specs.Calls.{call_of};
-ghost use Rattle.switch_spec.specs.Meaning.{carried, to_lane};
+ghost use Rattle.switch_spec.specs.Meaning.{carried, receiver, to_lane};
 ghost use Rattle.switch_spec.specs.Play.{begun, next_packet, played_report};
 ghost use Rattle.switch_spec.specs.Tape.{IsRecord};
 ghost use Rattle.p4switch_run.specs.Session.{played_of, IsSession, IsHandled, IsEntered, PlaysCall, Plays, IsPlayed, HasRoom};
@@ -18,6 +18,7 @@ use p4_types::messages::PacketIn;
 use p4_types::records::{CpuMessage, Record};
 use p4_types::tape::{TapeRecord, Who};
 use p4v1_read::read_call;
+use plane_image::Image;
 use std::alloc::Global;
 use std::marker::Model;
 
@@ -32,6 +33,10 @@ pub struct Session {
 
 impl Model for Session {
     ghost use Rattle.p4switch_run.specs.Session.{State};
+    ghost use Rattle.bm_expr.specs.TreeCode.{number_code, truth_code};
+    ghost use Rattle.std.specs.Coded.{codes};
+
+    ghost coded = { Prim.hlevel (codes, number_code, truth_code) };
 
     ghost Value = { State };
 
@@ -51,6 +56,20 @@ fn addressed(
         messages.push(CpuMessage { lane, packet })?;
     }
     Ok(messages)
+}
+
+// Packets for a controller, which go to the primary of role 0, if there is one. Where there are none it is not asked for.
+fn to_controller(
+    alloc: Global,
+    image: &Image,
+    packets: List<PacketIn>,
+) -> Result<List<CpuMessage>, NoMemory>
+    ensures { IfOk result (λ messages. messages ≡ map (to_lane (receiver image.now.now)) packets) }
+{
+    if packets.is_empty() {
+        return Ok(List::new(alloc));
+    }
+    addressed(alloc, image.roles().primary(0), packets)
 }
 
 impl Session {
@@ -175,7 +194,7 @@ impl Session {
             steps: image.steps(),
             fate: verdict.fate,
             outputs: verdict.outputs,
-            cpu: addressed(alloc, image.roles().primary(0), verdict.packet_ins)?,
+            cpu: to_controller(alloc, image, verdict.packet_ins)?,
             digest: verdict.sample,
             hits: verdict.hits,
         })

@@ -8,7 +8,7 @@ pub enum Status {
     Done,
     /// 1: the bytes are no tape; the longest front of them with which some tape begins has so many bytes.
     NotATape(u64),
-    /// 2: the words are not in the grammar.
+    /// 2: the words are not in the grammar, or are a command that is not built.
     WordsRefused,
     /// 3: there was no memory.
     NoMemory,
@@ -18,6 +18,8 @@ pub enum Status {
     WriteFault,
     /// 6: the tape has more bytes or records than a tape may have.
     TooLong,
+    /// 8: the configuration breaks a rule.
+    Refused,
 }
 
 impl Status {
@@ -34,6 +36,7 @@ impl Status {
             Status::ReadFault => 4,
             Status::WriteFault => 5,
             Status::TooLong => 6,
+            Status::Refused => 8,
         }
     }
 }

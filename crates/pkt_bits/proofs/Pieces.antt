@@ -31,7 +31,7 @@ drop-none : (n : ℕ) → drop {A = ℕ} n [] ≡ []
 drop-none zero = refl
 drop-none (suc n) = refl
 
-drop-bits : (i : ℕ) (bytes : List ℕ) → drop (i * 8) (bits bytes) ≡ bits (drop i bytes)
+pub drop-bits : (i : ℕ) (bytes : List ℕ) → drop (i * 8) (bits bytes) ≡ bits (drop i bytes)
 drop-bits zero bytes = refl
 drop-bits (suc i) [] = rw bits-nil (drop-none _)
 drop-bits (suc i) (b ∷ bytes) =
@@ -236,8 +236,8 @@ with_chunk_is old off n r k value turned e small fits =
     spread a b c d = omega arith
 
 -- the next bits of a value, and the value as far as they reach
-pub part_is : (value size : ℕ) → size ≤ 8 → bit_and value (1 * 2 ^ size % 340282366920938463463374607431768211456 - 1) ≡ value % 2 ^ size
-part_is value size le = ap (λ x. bit_and value (x - 1)) (one_shl size 128 (omega arith)) ∙ and_mask value size
+pub part_is : (value size bits : ℕ) → size < bits → bit_and value (1 * 2 ^ size % 2 ^ bits - 1) ≡ value % 2 ^ size
+part_is value size bits lt = ap (λ x. bit_and value (x - 1)) (one_shl size bits lt) ∙ and_mask value size
 
 pub part_more : (value left size : ℕ) → size ≤ left → value / 2 ^ left * 2 ^ size + value / 2 ^ (left - size) % 2 ^ size ≡ value / 2 ^ (left - size)
 part_more value left size le =
@@ -272,19 +272,46 @@ same_none old bit = record { as_long = refl; before = refl; after = refl }
 
 -- ---- one turn of each loop
 
--- what `take` has read, with one chunk more
-pub take_turn : (bytes : List ℕ) (place off bit width left size next : ℕ) → off + size ≤ 8 → 1 ≤ size → size ≤ left → left ≤ width → width ≤ 128
-    → place * 8 + off ≡ bit + (width - left) → bit + width ≤ 8 * length bytes
-    → next ≡ get_or bytes place 0 / 2 ^ (8 - off - size) % 2 ^ size
+-- a whole byte more
+pub byte_more : (bytes : List ℕ) (place bit a next : ℕ) → place * 8 ≡ bit + a → place < length bytes → next ≡ get_or bytes place 0 / 2 ^ 0 % 2 ^ 8
+    → field bytes bit a * 256 + next ≡ field bytes bit (a + 8)
+byte_more bytes place bit a next here lt next_is =
+    let chunk : field bytes (bit + a) 8 ≡ next = field_in_byte (bit + a) place 0 8 0 bytes (omega arith) lt refl ∙ sym next_is in
+    ap (λ x. field bytes bit a * 256 + x) (sym chunk) ∙ sym (field_more bytes bit a (bit + a) 8 refl (omega arith))
+
+-- the first bits of a field
+pub field_first : (bytes : List ℕ) (bit a n : ℕ) → bit + a + n ≤ 8 * length bytes → field bytes bit (a + n) / 2 ^ n ≡ field bytes bit a
+field_first bytes bit a n le =
+    ap (λ x. x / 2 ^ n) (field_more bytes bit a (bit + a) n refl le) ∙ shr_high (field bytes bit a) n (field bytes (bit + a) n) (field-lt bytes (bit + a) n)
+
+-- what `take` has read, with one piece more
+pub take_turn : (bytes : List ℕ) (bit width left size next : ℕ) → size ≤ left → left ≤ width → width ≤ 128 → bit + width ≤ 8 * length bytes
+    → next ≡ field bytes (bit + (width - left)) size
     → field bytes bit (width - left) * 2 ^ size % 340282366920938463463374607431768211456 + next ≡ field bytes bit (width - (left - size))
-take_turn bytes place off bit width left size next one_byte some le few wide here range next_is =
-    let chunk : field bytes (bit + (width - left)) size ≡ next =
-    field_in_byte (bit + (width - left)) place off size (8 - off - size) bytes (sym here) (omega arith) (omega arith) ∙ sym next_is in
+take_turn bytes bit width left size next le few wide range next_is =
     let far : width - left + size ≡ width - (left - size) = omega arith in
     ap (λ x. x + next) (shl_whole (field bytes bit (width - left)) (width - left) size 128 (field-lt bytes bit (width - left)) (omega arith))
-    ∙ ap (λ x. field bytes bit (width - left) * 2 ^ size + x) (sym chunk)
+    ∙ ap (λ x. field bytes bit (width - left) * 2 ^ size + x) next_is
     ∙ sym (field_more bytes bit (width - left) (bit + (width - left)) size refl (omega arith))
     ∙ ap (field bytes bit) far
+
+-- what `put` has written, with one piece more
+pub put_piece : (first bytes newer : List ℕ) (bit width left size value part : ℕ) → size ≤ left → left ≤ width → bit + width ≤ 8 * length bytes
+    → part ≡ value / 2 ^ (left - size) % 2 ^ size
+    → field newer (bit + (width - left)) size ≡ part → SameOutside bytes newer (bit + (width - left)) size
+    → field bytes bit (width - left) ≡ value / 2 ^ left → SameOutside first bytes bit (width - left)
+    → (field newer bit (width - (left - size)) ≡ value / 2 ^ (left - size)) × SameOutside first newer bit (width - (left - size))
+put_piece first bytes newer bit width left size value part le few range part_is is others so_far same =
+    let at = bit + (width - left) in
+    let far : width - left + size ≡ width - (left - size) = omega arith in
+    let number : field newer bit (width - left + size) ≡ value / 2 ^ (left - size) =
+    put_more bytes newer bit (width - left) at size refl (omega (arith, others.as_long)) others
+    ∙ ap (λ x. x * 2 ^ size + field newer at size) so_far
+    ∙ ap (λ x. value / 2 ^ left * 2 ^ size + x) (is ∙ part_is)
+    ∙ part_more value left size le in (
+      ap (field newer bit) (sym far) ∙ number,
+      rw (← far) (same_more first bytes newer bit (width - left) at size refl same others),
+    )
 
 -- what `put` has written, with one chunk more
 pub put_turn : (first bytes : List ℕ) (place off bit width left size value part b : ℕ) → off + size ≤ 8 → 1 ≤ size → size ≤ left → left ≤ width
@@ -300,15 +327,7 @@ put_turn first bytes place off bit width left size value part b one_byte some le
     let fits : part < 2 ^ size = rw part_is (mod_below (value / 2 ^ (left - size)) (2 ^ size) (pow_pos size)) in
     let turned : 8 - off ≡ size + r = omega arith in
     let done = written at place off size r part bytes (sym here) (omega arith) (omega arith) fits b (b_is ∙ ap (λ k. old / 2 ^ k * 2 ^ k + (part * 2 ^ r + old % 2 ^ r)) turned) in
-    let far : width - left + size ≡ width - (left - size) = omega arith in
-    let number : field (set bytes place b) bit (width - left + size) ≡ value / 2 ^ (left - size) =
-    put_more bytes (set bytes place b) bit (width - left) at size refl (rw (length-set bytes place b) (omega arith)) done.1
-    ∙ ap (λ x. x * 2 ^ size + field (set bytes place b) at size) so_far
-    ∙ ap (λ x. value / 2 ^ left * 2 ^ size + x) (done.0 ∙ part_is)
-    ∙ part_more value left size le in (
-      ap (field (set bytes place b) bit) (sym far) ∙ number,
-      rw (← far) (same_more first bytes (set bytes place b) bit (width - left) at size refl same done.1),
-    )
+    put_piece first bytes (set bytes place b) bit width left size value part le few (omega (arith, same.as_long)) part_is done.0 done.1 so_far same
 
 pub field_fits : (bytes : List ℕ) (bit n : ℕ) → n ≤ 128 → field bytes bit n < 2 ^ 128
 field_fits bytes bit n le = omega (arith, field-lt bytes bit n, pow-le-pow_right {n = 2} (lit< tt) {i = n} {j = 128} le)

@@ -2,3 +2,4 @@ pub mod Changing
 pub mod Following
 pub mod Numbering
 pub mod Outcomes
+pub mod Scoping

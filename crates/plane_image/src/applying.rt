@@ -47,12 +47,13 @@ impl Image {
         ensures settled { self.new.before ≡ self.new.now }
         ensures steps { self.new.steps ≡ min (self.old.steps + 1) (2 ^ 64 - 1) }
     {
-        self.enter(Session {
+        let new = self.roles().placed(Session {
             caller: by.caller,
             role: by.role,
             election_id: by.election_id,
             config: copied(config),
         });
+        self.enter(new);
         self.keep(1);
     }
 

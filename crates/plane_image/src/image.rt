@@ -5,6 +5,7 @@ ghost use Rattle.plane_spec.specs.Entries.{next_number};
 ghost use Rattle.plane_spec.specs.Planes.{rows_in, room_of, target, cause_in, change_applied, with_roles};
 ghost use Rattle.plane_image.specs.Image.{now_of, before_of, BelowIn, after_in, drawn_in};
 ghost use Rattle.role_arbiter.specs.Arbitration.{arbitrated, left, is_refused};
+ghost use Rattle.role_arbiter.specs.Placing.{IsPlaced};
 ghost use Rattle.role_arbiter.specs.Telling.{told_at_arbitration};
 ghost use Rattle.table_store.specs.Answers.{Refuses};
 
@@ -12,7 +13,7 @@ use list_types::Refusal;
 use p4_types::code::{Cause, Code, Rule};
 use p4_types::table::{Change, Room};
 use plane_state::{Drawn, Plane};
-use role_arbiter::{Lanes, Roles, Session, UndoRoles};
+use role_arbiter::{Lanes, Placed, Roles, UndoRoles};
 use std::alloc::Global;
 use std::marker::Model;
 
@@ -39,6 +40,10 @@ pub struct Image {
 
 impl Model for Image {
     ghost use Rattle.plane_image.specs.Image.{ImageVersions, control_of, now_of, before_of, IsImage};
+    ghost use Rattle.bm_expr.specs.TreeCode.{number_code, truth_code};
+    ghost use Rattle.std.specs.Coded.{codes};
+
+    ghost coded = { Prim.hlevel (codes, number_code, truth_code) };
 
     ghost Value = { ImageVersions };
 
@@ -210,15 +215,16 @@ impl Image {
     }
 
     /// The step of an arbitration that breaks no rule, with the lanes that are to be told of it. It takes no memory.
-    pub fn enter(&mut self, session: Session) -> Lanes
+    pub fn enter(&mut self, new: Placed) -> Lanes
         requires settled { self.old.before ≡ self.old.now }
-        requires accepted { is_refused self.old.now.roles session ≡ false }
-        ensures now { self.new.now ≡ with_roles self.old.now (arbitrated self.old.now.roles session) }
+        requires accepted { is_refused self.old.now.roles new.session ≡ false }
+        requires placed { IsPlaced self.old.now.roles new }
+        ensures now { self.new.now ≡ with_roles self.old.now (arbitrated self.old.now.roles new.session) }
         ensures before { self.new.before ≡ self.old.before }
         ensures steps { self.new.steps ≡ self.old.steps }
-        ensures told { result ≡ told_at_arbitration self.old.now.roles session }
+        ensures told { result ≡ told_at_arbitration self.old.now.roles new.session }
     {
-        self.roles.enter(session)
+        self.roles.enter(new)
     }
 
     /// The step by which a caller's session ends. It takes no memory.

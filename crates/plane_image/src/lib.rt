@@ -5,6 +5,8 @@
 mod applying;
 mod image;
 mod opening;
+mod scope;
 mod updating;
 
 pub use image::Image;
+pub use scope::Scope;

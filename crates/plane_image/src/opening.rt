@@ -33,12 +33,13 @@ fn roles(alloc: Global, start: &Start) -> Result<UndoRoles, NoMemory>
 {
     let mut roles = UndoRoles::open(alloc)?;
     if start.bridge {
-        roles.enter(Session {
+        let new = roles.roles().placed(Session {
             caller: 0,
             role: 0,
             election_id: Uint128 { high: 0, low: 1 },
             config: None,
         });
+        roles.enter(new);
         roles.settle();
     }
     Ok(roles)

@@ -7,3 +7,4 @@ pub mod Lists
 pub mod SoundPlanes
 pub mod SoundRoles
 pub mod Steady
+pub mod ValidBridge

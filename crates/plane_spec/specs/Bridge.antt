@@ -1,5 +1,19 @@
 -- The built-in Ethernet bridge (this project's profile).
-use Rattle.std.specs.Prelude.{ℕ, pos, false, List, [], ◌∷◌, codes, None}
+use Rattle.std.specs.Prelude.{ℕ, pos, true, false, List, [], ◌∷◌, codes, Some, None}
+use Rattle.bm_expr.specs.Trees.{Datum}
+use Rattle.bm_expr.specs.declared.store.FieldPlace.{FieldPlace}
+use Rattle.bm_pipeline.specs.declared.actions.Action as bodies
+use Rattle.bm_pipeline.specs.declared.actions.Primitive.TheVariants as primitives
+use Rattle.bm_pipeline.specs.declared.headers.FieldRef.TheVariants as refs
+use Rattle.bm_pipeline.specs.declared.headers.Header.{Header}
+use Rattle.bm_pipeline.specs.declared.parser.KeyTest.TheVariants as key_tests
+use Rattle.bm_pipeline.specs.declared.parser.Parser.{Parser}
+use Rattle.bm_pipeline.specs.declared.parser.ParserOp.TheVariants as ops
+use Rattle.bm_pipeline.specs.declared.program.Program.{Program}
+use Rattle.bm_pipeline.specs.declared.tables.Next.TheVariants as nexts
+use Rattle.bm_pipeline.specs.declared.tables.Node.TheVariants as nodes
+use Rattle.bm_pipeline.specs.declared.tables.Table as table_bodies
+use Rattle.bm_pipeline.specs.declared.tables.TableAction.{TableAction}
 use Rattle.p4_types.specs.declared.info.Action.{Action}
 use Rattle.p4_types.specs.declared.info.Info.{Info}
 use Rattle.p4_types.specs.declared.info.MatchKind.TheVariants.{Exact}
@@ -74,9 +88,84 @@ bridge_bytes =
     0x77 ∷ 0x61 ∷ 0x72 ∷ 0x64 ∷ 0x12 ∷ 0x0a ∷ 0x08 ∷ 0x01 ∷ 0x12 ∷ 0x04 ∷ 0x70 ∷ 0x6f ∷ 0x72 ∷ 0x74 ∷ 0x20 ∷ 0x09 ∷
     0x1a ∷ 0x0d ∷ 0x0a ∷ 0x0b ∷ 0x08 ∷ 0x82 ∷ 0x80 ∷ 0x80 ∷ 0x08 ∷ 0x12 ∷ 0x04 ∷ 0x64 ∷ 0x72 ∷ 0x6f ∷ 0x70 ∷ []
 
+-- the fields of its `standard_metadata`: ingress_port, egress_spec, egress_port, packet_length, parser_error, checksum_error
+abbrev pub metadata_field : ℕ → ℕ → FieldPlace
+metadata_field index width = record { index = index; header = 0; width = width }
+
+-- `standard_metadata`
+abbrev pub metadata_header : Header
+metadata_header = record { place = record { header = 0; first = 0; count = 6 }; metadata = true; widths = 9 ∷ 9 ∷ 9 ∷ 32 ∷ 32 ∷ 1 ∷ []; bits = 92 }
+
+-- `eth`: destination, source, type
+abbrev pub eth_header : Header
+eth_header = record { place = record { header = 1; first = 6; count = 3 }; metadata = false; widths = 48 ∷ 48 ∷ 16 ∷ []; bits = 112 }
+
+-- the destination address of a frame
+abbrev pub destination : FieldPlace
+destination = record { index = 6; header = 1; width = 48 }
+
+-- its parser: a frame's header is extracted, and the frame accepted
+abbrev pub bridge_parser : Parser
+bridge_parser = record {
+  init_state = 0;
+  parse_states = (record { parser_ops = ops.Extract 1 ∷ []; transition_key = []; transitions = (record { test = key_tests.Default; next_state = None }) ∷ [] }) ∷ [];
+}
+
+-- `forward`: the port becomes that of the frame
+abbrev pub forward_body : bodies.Action
+forward_body = record { runtime_data = 9 ∷ []; primitives = primitives.Assign (metadata_field 1 9) (Datum 0) ∷ [] }
+
+-- `drop`
+abbrev pub drop_body : bodies.Action
+drop_body = record { runtime_data = []; primitives = primitives.MarkToDrop ∷ [] }
+
+-- `drop` as an action of the table, which ends ingress
+abbrev pub dropping : TableAction
+dropping = record { action = 1; reference = Some drop_action; next = nexts.End }
+
+-- its table
+abbrev pub bridge_table_body : table_bodies.Table
+bridge_table_body = record {
+  id = Some bridge_table;
+  key = refs.Field destination ∷ [];
+  actions = (record { action = 0; reference = Some forward_action; next = nexts.End }) ∷ dropping ∷ [];
+  hit = nexts.NotNamed;
+  miss = nexts.NotNamed;
+  base_default_next = None;
+  default_entry = Some (record { action = dropping; action_data = [] });
+  selector = [];
+}
+
+-- its program: a table between parser and deparser, and an empty egress
+unfoldable pub bridge_program : Program
+bridge_program = record {
+  headers = metadata_header ∷ eth_header ∷ [];
+  fields = 9;
+  standard_metadata = record {
+    ingress_port = Some (metadata_field 0 9);
+    packet_length = Some (metadata_field 3 32);
+    egress_spec = metadata_field 1 9;
+    egress_port = Some (metadata_field 2 9);
+    mcast_grp = None;
+    parser_error = Some (metadata_field 4 32);
+    checksum_error = Some (metadata_field 5 1);
+  };
+  errors = record { no_error = 0; packet_too_short = 1; no_match = 2 };
+  parser = bridge_parser;
+  deparser = 1 ∷ [];
+  calculations = [];
+  checksums = [];
+  learn_lists = [];
+  actions = forward_body ∷ drop_body ∷ [];
+  tables = bridge_table_body ∷ [];
+  conditionals = [];
+  ingress = Some (nodes.Table 0);
+  egress = None;
+}
+
 -- its configuration: it has no device configuration, and its cookie is 0
 abbrev pub bridge_config : Config
-bridge_config = record { p4info = bridge_bytes; device_config = []; cookie = 0; info = bridge_info; defaults = bridge_defaults }
+bridge_config = record { p4info = bridge_bytes; device_config = []; cookie = 0; info = bridge_info; program = bridge_program; defaults = bridge_defaults }
 
 -- controller 0 starts as the primary of role 0
 abbrev pub bridge_session : Session

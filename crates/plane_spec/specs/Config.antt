@@ -1,16 +1,18 @@
 -- Forwarding pipeline configurations (P4Runtime 1.3.0, "ForwardingPipelineConfig").
 use Rattle.std.specs.Prelude.{ℕ, List, sum_by}
+use Rattle.bm_pipeline.specs.declared.program.Program.{Program}
 use Rattle.p4_types.specs.declared.events.Committed as committed
 use Rattle.p4_types.specs.declared.events.Event as event
 use Rattle.p4_types.specs.declared.info.Info.{Info}
 use Rattle.p4_types.specs.declared.table.DefaultAction.{DefaultAction}
 
--- a configuration as it was given, and what it means: the objects of the program, and its own default actions
+-- a configuration as it was given, and what it means: the objects of the program, the program, and its own default actions
 pub record Config : Type 0 where
   pub p4info : List ℕ
   pub device_config : List ℕ
   pub cookie : ℕ
   pub info : Info
+  pub program : Program
   -- by rising table id
   pub defaults : List DefaultAction
 

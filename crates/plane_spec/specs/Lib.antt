@@ -6,5 +6,6 @@ pub mod Objects
 pub mod Order
 pub mod PlaneLaws
 pub mod Planes
+pub mod Profiles
 pub mod RoleLaws
 pub mod UpdateRules

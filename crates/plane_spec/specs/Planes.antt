@@ -8,6 +8,7 @@ use Rattle.p4_types.specs.declared.events.Event.TheVariants as events
 use Rattle.p4_types.specs.declared.events.Origin.{Origin}
 use Rattle.p4_types.specs.declared.events.Start.{Start}
 use Rattle.p4_types.specs.declared.info.Table.{Table}
+use Rattle.p4_types.specs.declared.messages.DigestEntry.{DigestEntry}
 use Rattle.p4_types.specs.declared.messages.Uint128.{Uint128}
 use Rattle.p4_types.specs.declared.messages.Update.{Update}
 use Rattle.p4_types.specs.declared.table.ActionCall.{ActionCall}
@@ -25,6 +26,7 @@ use Rattle.plane_spec.specs.Bridge.{bridge_config, bridge_session}
 use Rattle.plane_spec.specs.Config.{Config, Committed, Event, cells_in}
 use Rattle.plane_spec.specs.Entries.{slot_limit, insert_cause, absence_cause, new_entry, slots_drawn, inserted, modified, deleted}
 use Rattle.plane_spec.specs.Objects.{table_of}
+use Rattle.plane_spec.specs.Profiles.{Member, Group}
 use Rattle.plane_spec.specs.UpdateRules.{resolution, caused, unless}
 
 -- the state of a program
@@ -34,6 +36,12 @@ pub record Plane : Type 0 where
   pub entries : List Entry
   -- the default actions that were changed, by rising table id
   pub changed : List DefaultAction
+  -- by profile and id
+  pub members : List Member
+  -- by profile and id
+  pub groups : List Group
+  -- the digests that are told of, by rising id
+  pub digests : List DigestEntry
   -- the slot of the first cell of its indirect counters; those of the others follow, in the order of the P4Info
   pub cells : ℕ
 
@@ -59,7 +67,7 @@ pub record Control : Type 0 where
 
 -- a plane of a configuration with nothing written, whose cells draw the slots from this one on
 abbrev pub made_plane : ℕ → Config → Plane
-made_plane slot config = record { config = config; entries = []; changed = []; cells = slot }
+made_plane slot config = record { config = config; entries = []; changed = []; members = []; groups = []; digests = []; cells = slot }
 
 -- The bridge starts with an empty table and its session. It has no counters.
 abbrev pub opened : Start → Control

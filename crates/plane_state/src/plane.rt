@@ -1,9 +1,9 @@
 //! Planes.
-ghost use Rattle.std.specs.Prelude.{◌≡◌, ◌<◌, All, None, IfOk, OnOk, OnErr};
+ghost use Rattle.std.specs.Prelude.{◌≡◌, ◌<◌, [], All, None, IfOk, OnOk, OnErr};
 ghost use Rattle.std.specs.Option.{option_map};
 ghost use Rattle.plane_spec.specs.Entries.{next_number};
 ghost use Rattle.plane_spec.specs.Objects.{table_of};
-ghost use Rattle.plane_spec.specs.Planes.{made_plane, change_cause, insert_cause_in, with_default, default_entry, miss_action};
+ghost use Rattle.plane_spec.specs.Planes.{made_plane, change_cause, insert_cause_in, with_default, default_in, default_entry, miss_action};
 ghost use Rattle.plane_state.specs.Versions.{insert_after, plane_after, drawn_by_insert, drawn_by};
 ghost use Rattle.table_store.specs.Answers.{Refuses};
 
@@ -30,17 +30,22 @@ pub struct Plane {
 
 impl Model for Plane {
     ghost use Rattle.plane_state.specs.Versions.{PlaneVersions, IsPlane};
+    ghost use Rattle.std.specs.Prelude.{[]};
+    ghost use Rattle.bm_expr.specs.TreeCode.{number_code, truth_code};
+    ghost use Rattle.std.specs.Coded.{codes};
+
+    ghost coded = { Prim.hlevel (codes, number_code, truth_code) };
 
     ghost Value = { PlaneVersions };
 
     ghost view = { λ p. record {
-      now = record { config = p.config; entries = p.store.entries; changed = p.changed.items; cells = p.cells };
-      before = record { config = p.config; entries = p.store.before; changed = p.changed.before; cells = p.cells };
+      now = record { config = p.config; entries = p.store.entries; changed = p.changed.items; members = []; groups = []; digests = []; cells = p.cells };
+      before = record { config = p.config; entries = p.store.before; changed = p.changed.before; members = []; groups = []; digests = []; cells = p.cells };
     } };
 
     ghost invariant = { λ p. IsPlane (record {
-      now = record { config = p.config; entries = p.store.entries; changed = p.changed.items; cells = p.cells };
-      before = record { config = p.config; entries = p.store.before; changed = p.changed.before; cells = p.cells };
+      now = record { config = p.config; entries = p.store.entries; changed = p.changed.items; members = []; groups = []; digests = []; cells = p.cells };
+      before = record { config = p.config; entries = p.store.before; changed = p.changed.before; members = []; groups = []; digests = []; cells = p.cells };
     }) };
 }
 
@@ -101,6 +106,29 @@ impl Plane {
             Some(default) => Some(&default.action),
             None => None,
         }
+    }
+
+    /// The default action of a table that was changed, if it was.
+    pub fn changed_default(&self, table: u32) -> Option<&DefaultAction>
+        ensures { option_map (λ default. default.now) result ≡ default_in table self.now.now.changed }
+    {
+        defaults::default_in(self.changed.as_slice(), table)
+    }
+
+    /// The slot of the first cell of its indirect counters.
+    pub fn cells(&self) -> u32
+        ensures { result ≡ self.now.now.cells }
+    {
+        self.cells
+    }
+
+    /// Members, groups and digest entries cannot be written yet, so that a plane has none. It does nothing.
+    pub fn has_entries_alone(&self)
+        ensures members { self.now.now.members ≡ [] }
+        ensures groups { self.now.now.groups ≡ [] }
+        ensures digests { self.now.now.digests ≡ [] }
+    {
+        let _ = &self.config;
     }
 
     fn insert(

@@ -1,5 +1,6 @@
 pub mod PackedIds
 pub mod Places
+pub mod ByPlaces
 pub mod Entering
 pub mod Greatest
 pub mod Soundness

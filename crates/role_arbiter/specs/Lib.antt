@@ -2,6 +2,7 @@ pub mod Election
 pub mod State
 pub mod Configuration
 pub mod Arbitration
+pub mod Placing
 pub mod Telling
 pub mod Laws
 pub mod Undo

@@ -36,9 +36,13 @@ greatest_in named role = greatest_or_zero (find (λ known. known.role == role) n
 abbrev pub bears : ℕ → Uint128 → Session → Bool
 bears role id session = (session.role == role) && not (election_number session.election_id == 0) && (election_number session.election_id == election_number id)
 
+-- the live session of the role that bears this election id, if it is not 0
+abbrev pub primary_with : List Session → ℕ → Uint128 → Option Session
+primary_with sessions role greatest = find (λ session. bears role greatest session) sessions
+
 -- the live session of the role that bears the greatest election id that the role ever received, or none
 abbrev pub primary_in : List Session → List NamedRole → ℕ → Option Session
-primary_in sessions named role = find (λ session. bears role (greatest_in named role) session) sessions
+primary_in sessions named role = primary_with sessions role (greatest_in named role)
 
 -- the primary of a role, if it has one
 abbrev pub primary_of : RolesState → ℕ → Option Session

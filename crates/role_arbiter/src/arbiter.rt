@@ -1,19 +1,21 @@
 //! The roles of a device and their sessions.
-ghost use Rattle.std.specs.Prelude.{◌≡◌, ◌==◌, false, None, Some, IfOk, IfErr, OnOk, OnErr, is_some};
-ghost use Rattle.std.specs.List.{find};
+ghost use Rattle.std.specs.Prelude.{◌≡◌, false, None, Some, IfOk, IfErr, OnOk, OnErr, is_some, unwrap_or};
 ghost use Rattle.std.specs.Option.{option_map, option_copied};
 ghost use Rattle.role_arbiter.specs.State.{RolesState, no_roles, session_in, greatest_in, primary_of, status_by, status_of};
 ghost use Rattle.role_arbiter.specs.Arbitration.{cause, asked, arbitrated, left, is_refused, inserted};
+ghost use Rattle.role_arbiter.specs.Configuration.{config_of};
 ghost use Rattle.role_arbiter.specs.Laws.{IsSound};
+ghost use Rattle.role_arbiter.specs.Placing.{IsPlaced, placed_at, cause_at};
 ghost use Rattle.role_arbiter.specs.Undo.{session_back, named_back};
 ghost use Rattle.role_arbiter.specs.Telling.{told_at_arbitration, told_at_leave};
 
 use crate::changes::{self, ROLE_LIMIT};
 use crate::configuration::{config_of, role_of};
 use crate::numbers::{Lanes, SESSION_LIMIT};
-use crate::sessions::{self, NamedRole, Session};
+use crate::sessions::{self, NamedRole, Placed, Session};
 use list_types::NoMemory;
 use p4_types::code::{ArbitrationRule, Code};
+use p4_types::ids::Ids;
 use p4_types::messages::{MasterArbitrationUpdate, Uint128};
 use std::alloc::Global;
 use std::marker::Model;
@@ -76,11 +78,18 @@ impl Roles {
         sessions::greatest_in(&self.named, role)
     }
 
-    /// The greatest election id that a role ever received, if it was ever named.
-    pub(crate) fn received(&self, role: u64) -> Option<Uint128>
-        ensures { result ≡ option_map (λ known. known.greatest) (find (λ known. known.role == role) self.now.named) }
+    /// A copy of the session at a place, if there is one.
+    pub(crate) fn session_at(&self, place: Option<usize>) -> Option<Session>
+        ensures { result ≡ placed_at place self.now.sessions }
     {
-        match sessions::known_in(&self.named, role) {
+        sessions::copied_of(sessions::session_at(&self.sessions, place))
+    }
+
+    /// The greatest election id that the role at a place received, if there is one.
+    pub(crate) fn received_at(&self, place: Option<usize>) -> Option<Uint128>
+        ensures { result ≡ option_map (λ known. known.greatest) (placed_at place self.now.named) }
+    {
+        match sessions::known_at(&self.named, place) {
             None => None,
             Some(known) => Some(known.greatest),
         }
@@ -121,19 +130,21 @@ impl Roles {
         }
     }
 
-    /// The session that an update would give its caller, or the first rule of A2 to A5 that it
-    /// breaks. The device (A1) is the caller's to look at. Nothing changes.
-    pub fn check(
+    // The configuration that an update gives, or the first rule of A2 to A5 that it breaks, by the places of its
+    // caller's session and of its role.
+    fn judge(
         &self,
+        place: Option<usize>,
+        known: Option<usize>,
         caller: u16,
         update: &MasterArbitrationUpdate,
-    ) -> Result<Session, ArbitrationRule>
-        ensures accepted { OnOk result (cause self.now caller update.now ≡ None) }
-        ensures session { IfOk result (λ session. session ≡ asked caller update.now) }
-        ensures refused { IfErr result (λ refused. cause self.now caller update.now ≡ Some refused) }
+    ) -> Result<Option<Ids>, ArbitrationRule>
+        ensures accepted { OnOk result (cause_at self.now place known caller update.now ≡ None) }
+        ensures config { IfOk result (λ config. config ≡ unwrap_or (config_of update.now.role) None) }
+        ensures refused { IfErr result (λ refused. cause_at self.now place known caller update.now ≡ Some refused) }
     {
         let role = role_of(&update.role);
-        if changes::has_other_role(&self.sessions, caller, role) {
+        if sessions::has_role_beside(sessions::session_at(&self.sessions, place), role) {
             return Err(ArbitrationRule::A2);
         }
         let Ok(config) = config_of(&update.role) else {
@@ -142,17 +153,56 @@ impl Roles {
         if changes::id_is_taken(&self.sessions, caller, role, update.election_id) {
             return Err(ArbitrationRule::A4);
         }
-        if changes::lacks_session(&self.sessions, caller)
-            || changes::lacks_role(&self.named, role)
+        if changes::lacks_session(&self.sessions, place)
+            || changes::lacks_role(&self.named, known)
         {
             return Err(ArbitrationRule::A5);
         }
-        Ok(Session {
-            caller,
-            role,
-            election_id: update.election_id,
-            config,
-        })
+        Ok(config)
+    }
+
+    /// A session with where the roles have what it takes the place of.
+    pub fn placed(&self, session: Session) -> Placed
+        ensures session { result.session ≡ session }
+        ensures placed { IsPlaced self.now result }
+    {
+        let place = changes::place_of(&self.sessions, session.caller);
+        let known = changes::place_of_role(&self.named, session.role);
+        Placed {
+            session,
+            place,
+            known,
+        }
+    }
+
+    /// The session that an update would give its caller, or the first rule of A2 to A5 that it
+    /// breaks. The device (A1) is the caller's to look at. Nothing changes.
+    pub fn check(
+        &self,
+        caller: u16,
+        update: &MasterArbitrationUpdate,
+    ) -> Result<Placed, ArbitrationRule>
+        ensures accepted { OnOk result (cause self.now caller update.now ≡ None) }
+        ensures session { IfOk result (λ new. new.session ≡ asked caller update.now) }
+        ensures placed { IfOk result (λ new. IsPlaced self.now new) }
+        ensures refused { IfErr result (λ refused. cause self.now caller update.now ≡ Some refused) }
+    {
+        let role = role_of(&update.role);
+        let place = changes::place_of(&self.sessions, caller);
+        let known = changes::place_of_role(&self.named, role);
+        match self.judge(place, known, caller, update) {
+            Ok(config) => Ok(Placed {
+                session: Session {
+                    caller,
+                    role,
+                    election_id: update.election_id,
+                    config,
+                },
+                place,
+                known,
+            }),
+            Err(rule) => Err(rule),
+        }
     }
 
     /// Arbitration by the rules A2 to A5. A refusal changes nothing.
@@ -182,22 +232,29 @@ impl Roles {
         ensures refused { IfErr result (λ refused. cause self.old caller update.now ≡ Some refused) }
         ensures kept { OnErr result (self.new ≡ self.old) }
     {
-        let session = self.check(caller, update)?;
-        Ok(self.enter(session))
+        let new = self.check(caller, update)?;
+        Ok(self.enter(new))
     }
 
     /// The step alone, for a session that `check` gave, with the lanes that are to be told of it.
-    pub fn enter(&mut self, session: Session) -> Lanes
-        requires accepted { is_refused self.old session ≡ false }
-        ensures step { self.new ≡ arbitrated self.old session }
-        ensures told { result ≡ told_at_arbitration self.old session }
+    pub fn enter(&mut self, new: Placed) -> Lanes
+        requires accepted { is_refused self.old new.session ≡ false }
+        requires placed { IsPlaced self.old new }
+        ensures step { self.new ≡ arbitrated self.old new.session }
+        ensures told { result ≡ told_at_arbitration self.old new.session }
     {
-        let before = sessions::primary_in(&self.sessions, &self.named, session.role);
+        let Placed {
+            session,
+            place,
+            known,
+        } = new;
+        let greatest = sessions::greatest_of(sessions::known_at(&self.named, known));
+        let before = sessions::primary_with(&self.sessions, session.role, greatest);
         let before = sessions::copied_of(before);
         let new = sessions::copied(&session);
-        changes::receive(&mut self.named, session.role, session.election_id);
-        changes::put(&mut self.sessions, session);
-        let after = sessions::primary_in(&self.sessions, &self.named, new.role);
+        let greatest = changes::receive(&mut self.named, known, session.role, session.election_id);
+        changes::put(&mut self.sessions, place, session);
+        let after = sessions::primary_with(&self.sessions, new.role, greatest);
         let others = sessions::differs(before.as_ref(), after);
         changes::with_others(others, &new, &self.sessions)
     }

@@ -1,7 +1,9 @@
 //! Changes of the sessions and of the roles, and who is told of them.
 ghost use Rattle.std.specs.Prelude.{◌≡◌, ◌==◌, ◌<◌, ◌≤◌, nat_lt, false, filter, length, not, vec_len, vec_capacity, position};
-ghost use Rattle.std.specs.List.{position_or_len, list_any};
-ghost use Rattle.role_arbiter.specs.Arbitration.{has_other_role, id_is_taken, has_session, is_named, lacks_session, lacks_role, inserted, replaced, with_session, greater, received};
+ghost use Rattle.std.specs.List.{position_or_len};
+ghost use Rattle.role_arbiter.specs.Arbitration.{id_is_taken, lacks_session, lacks_role, inserted, replaced, with_session, greater, received};
+ghost use Rattle.role_arbiter.specs.Placing.{place_of, place_of_role, lacks};
+ghost use Rattle.role_arbiter.specs.State.{greatest_in};
 ghost use Rattle.role_arbiter.specs.Undo.{session_back, named_back, with_greatest};
 ghost use Rattle.role_arbiter.specs.Telling.{with_others, others_of};
 
@@ -11,14 +13,6 @@ use p4_types::messages::Uint128;
 
 /// The most roles that are ever named.
 pub const ROLE_LIMIT: usize = 64;
-
-pub(crate) fn has_other_role(sessions: &[Session], caller: u16, role: u64) -> bool
-    ensures { result ≡ has_other_role sessions.now caller role }
-{
-    sessions
-        .iter()
-        .any(|session| session.caller == caller && session.role != role)
-}
 
 pub(crate) fn id_is_taken(sessions: &[Session], caller: u16, role: u64, id: Uint128) -> bool
     ensures { result ≡ id_is_taken sessions.now caller role id }
@@ -32,32 +26,23 @@ pub(crate) fn id_is_taken(sessions: &[Session], caller: u16, role: u64, id: Uint
     })
 }
 
-fn has_session(sessions: &[Session], caller: u16) -> bool
-    ensures { result ≡ has_session sessions.now caller }
+/// Whether there would be a 33rd live session, where the caller has none yet.
+pub(crate) fn lacks_session(sessions: &[Session], place: Option<usize>) -> bool
+    ensures { result ≡ lacks 32 place sessions.now }
 {
-    sessions.iter().any(|session| session.caller == caller)
+    place.is_none() && sessions.len() >= SESSION_LIMIT
 }
 
-fn is_named(named: &[NamedRole], role: u64) -> bool
-    ensures { result ≡ is_named named.now role }
+/// Whether there would be a 65th role, where it was not named yet.
+pub(crate) fn lacks_role(named: &[NamedRole], known: Option<usize>) -> bool
+    ensures { result ≡ lacks 64 known named.now }
 {
-    named.iter().any(|known| known.role == role)
+    known.is_none() && named.len() >= ROLE_LIMIT
 }
 
-pub(crate) fn lacks_session(sessions: &[Session], caller: u16) -> bool
-    ensures { result ≡ lacks_session sessions.now caller }
-{
-    !has_session(sessions, caller) && sessions.len() >= SESSION_LIMIT
-}
-
-pub(crate) fn lacks_role(named: &[NamedRole], role: u64) -> bool
-    ensures { result ≡ lacks_role named.now role }
-{
-    !is_named(named, role) && named.len() >= ROLE_LIMIT
-}
-
-fn place_of(sessions: &[Session], caller: u16) -> Option<usize>
-    ensures { result ≡ position (λ session. session.caller == caller) sessions.now }
+/// Where a caller's session stands, if it has one.
+pub(crate) fn place_of(sessions: &[Session], caller: u16) -> Option<usize>
+    ensures { result ≡ place_of sessions.now caller }
 {
     sessions.iter().position(|session| session.caller == caller)
 }
@@ -78,8 +63,9 @@ fn place_before_greater(sessions: &[Session], caller: u16) -> usize
     }
 }
 
-fn place_of_role(named: &[NamedRole], role: u64) -> Option<usize>
-    ensures { result ≡ position (λ known. known.role == role) named.now }
+/// Where a role stands among those that were named, if it was.
+pub(crate) fn place_of_role(named: &[NamedRole], role: u64) -> Option<usize>
+    ensures { result ≡ place_of_role named.now role }
 {
     named.iter().position(|known| known.role == role)
 }
@@ -96,16 +82,18 @@ pub(crate) fn insert(sessions: &mut Vec<Session>, session: Session)
     sessions.insert(place, session).unwrap();
 }
 
+/// Puts a session into its place, or, where its caller has none, before those of greater callers.
 #[tactic(auto, using(crate::proofs::Places::put_at))]
-pub(crate) fn put(sessions: &mut Vec<Session>, session: Session)
+pub(crate) fn put(sessions: &mut Vec<Session>, place: Option<usize>, session: Session)
     requires few { vec_len sessions.old ≤ 32 }
     requires room { 32 ≤ vec_capacity sessions.old }
+    requires placed { place ≡ place_of sessions.old.items session.caller }
     requires served { lacks_session sessions.old.items session.caller ≡ false }
     ensures items { sessions.new.items ≡ with_session sessions.old.items session }
     ensures few { vec_len sessions.new ≤ 32 }
     ensures room { 32 ≤ vec_capacity sessions.new }
 {
-    match place_of(sessions, session.caller) {
+    match place {
         Some(place) => sessions[place] = session,
         None => insert(sessions, session),
     }
@@ -121,22 +109,35 @@ fn greater(a: Uint128, b: Uint128) -> Uint128
     }
 }
 
+/// Gives a role, at its place or at the end, the election id that it received; the greatest that it has received then.
 #[tactic(auto, using(crate::proofs::Places::receive_at))]
-pub(crate) fn receive(named: &mut Vec<NamedRole>, role: u64, id: Uint128)
+pub(crate) fn receive(
+    named: &mut Vec<NamedRole>,
+    known: Option<usize>,
+    role: u64,
+    id: Uint128,
+) -> Uint128
     requires room { 64 ≤ vec_capacity named.old }
+    requires placed { known ≡ place_of_role named.old.items role }
     requires served { lacks_role named.old.items role ≡ false }
     ensures items { named.new.items ≡ received named.old.items role id }
     ensures room { 64 ≤ vec_capacity named.new }
+    ensures greatest { result ≡ greatest_in (received named.old.items role id) role }
 {
-    match place_of_role(named, role) {
+    match known {
         Some(place) => {
             let known = named[place];
+            let greatest = greater(known.greatest, id);
             named[place] = NamedRole {
                 role: known.role,
-                greatest: greater(known.greatest, id),
+                greatest,
             };
+            greatest
         }
-        None => named.push_reserved(NamedRole { role, greatest: id }),
+        None => {
+            named.push_reserved(NamedRole { role, greatest: id });
+            id
+        }
     }
 }
 

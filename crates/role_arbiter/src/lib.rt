@@ -11,5 +11,5 @@ mod undo;
 
 pub use arbiter::Roles;
 pub use numbers::Lanes;
-pub use sessions::{NamedRole, Session, election_number};
+pub use sessions::{NamedRole, Placed, Session, election_number, status_by};
 pub use undo::UndoRoles;

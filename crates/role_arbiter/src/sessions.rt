@@ -3,7 +3,8 @@ ghost use Rattle.std.specs.Prelude.{◌≡◌, ◌==◌};
 ghost use Rattle.std.specs.List.{find};
 ghost use Rattle.std.specs.Option.{option_copied};
 ghost use Rattle.role_arbiter.specs.Election.{election_number};
-ghost use Rattle.role_arbiter.specs.State.{session_in, greatest_in, primary_in, status_by};
+ghost use Rattle.role_arbiter.specs.State.{session_in, greatest_or_zero, greatest_in, primary_with, primary_in, status_by};
+ghost use Rattle.role_arbiter.specs.Placing.{placed_at, has_role_beside};
 ghost use Rattle.role_arbiter.specs.Telling.{same_config, differs};
 
 use p4_types::code::Code;
@@ -19,6 +20,16 @@ pub struct Session {
     pub election_id: Uint128,
     /// The ids that the role may write, or `None` where it may write all.
     pub config: Option<Ids>,
+}
+
+/// A session that an arbitration makes or changes, with where the roles have what it takes the place of.
+#[derive(Drop)]
+pub struct Placed {
+    pub session: Session,
+    /// Where the caller's session stands among the live ones, if it has one.
+    pub(crate) place: Option<usize>,
+    /// Where its role stands among those that were named, if it was.
+    pub(crate) known: Option<usize>,
 }
 
 /// A role that was named in an accepted arbitration, and the greatest election id that it ever
@@ -42,7 +53,47 @@ pub(crate) fn session_in(sessions: &[Session], caller: u16) -> Option<&Session>
     sessions.iter().find(|session| session.caller == caller)
 }
 
-pub(crate) fn known_in(named: &[NamedRole], role: u64) -> Option<&NamedRole>
+/// The session at a place, if there is one.
+pub(crate) fn session_at(sessions: &[Session], place: Option<usize>) -> Option<&Session>
+    ensures { option_copied result ≡ placed_at place sessions.now }
+{
+    match place {
+        None => None,
+        Some(place) => sessions.get(place),
+    }
+}
+
+/// The role at a place, if there is one.
+pub(crate) fn known_at(named: &[NamedRole], place: Option<usize>) -> Option<&NamedRole>
+    ensures { option_copied result ≡ placed_at place named.now }
+{
+    match place {
+        None => None,
+        Some(place) => named.get(place),
+    }
+}
+
+/// The greatest election id that a named role received, 0 for a role that was not named.
+pub(crate) fn greatest_of(known: Option<&NamedRole>) -> Uint128
+    ensures { result ≡ greatest_or_zero (option_copied known.entry) }
+{
+    match known {
+        Some(known) => known.greatest,
+        None => Uint128 { high: 0, low: 0 },
+    }
+}
+
+/// There is a session, and its role is another.
+pub(crate) fn has_role_beside(session: Option<&Session>, role: u64) -> bool
+    ensures { result ≡ has_role_beside role (option_copied session.entry) }
+{
+    match session {
+        Some(session) => session.role != role,
+        None => false,
+    }
+}
+
+fn known_in(named: &[NamedRole], role: u64) -> Option<&NamedRole>
     ensures { option_copied result ≡ find (λ known. known.role == role) named.now }
 {
     named.iter().find(|known| known.role == role)
@@ -51,10 +102,7 @@ pub(crate) fn known_in(named: &[NamedRole], role: u64) -> Option<&NamedRole>
 pub(crate) fn greatest_in(named: &[NamedRole], role: u64) -> Uint128
     ensures { result ≡ greatest_in named.now role }
 {
-    match known_in(named, role) {
-        Some(known) => known.greatest,
-        None => Uint128 { high: 0, low: 0 },
-    }
+    greatest_of(known_in(named, role))
 }
 
 pub(crate) fn primary_in<'a>(
@@ -64,7 +112,14 @@ pub(crate) fn primary_in<'a>(
 ) -> Option<&'a Session>
     ensures { option_copied result ≡ primary_in sessions.now named.now role }
 {
-    let greatest = election_number(greatest_in(named, role));
+    primary_with(sessions, role, greatest_in(named, role))
+}
+
+/// The live session of a role that bears this election id, if it is not 0.
+pub(crate) fn primary_with(sessions: &[Session], role: u64, greatest: Uint128) -> Option<&Session>
+    ensures { option_copied result ≡ primary_with sessions.now role greatest }
+{
+    let greatest = election_number(greatest);
     sessions.iter().find(|session| {
         session.role == role
             && election_number(session.election_id) != 0
@@ -120,7 +175,8 @@ pub(crate) fn copied_of(session: Option<&Session>) -> Option<Session>
     }
 }
 
-pub(crate) fn status_by(primary: Option<&Session>, caller: u16) -> Code
+/// What a session is told: whether it is the primary of its role, or there is another one, or none.
+pub fn status_by(primary: Option<&Session>, caller: u16) -> Code
     ensures { result ≡ status_by (option_copied primary.entry) caller }
 {
     match primary {

@@ -2,11 +2,12 @@
 ghost use Rattle.std.specs.Prelude.{◌≡◌, false, IfOk};
 ghost use Rattle.role_arbiter.specs.State.{no_roles};
 ghost use Rattle.role_arbiter.specs.Arbitration.{arbitrated, left, is_refused};
+ghost use Rattle.role_arbiter.specs.Placing.{IsPlaced};
 ghost use Rattle.role_arbiter.specs.Telling.{told_at_arbitration};
 
 use crate::arbiter::Roles;
 use crate::numbers::Lanes;
-use crate::sessions::{self, Session};
+use crate::sessions::{self, Placed, Session};
 use list_types::NoMemory;
 use p4_types::messages::Uint128;
 use std::alloc::Global;
@@ -69,20 +70,21 @@ impl UndoRoles {
     }
 
     /// The step of an arbitration that breaks no rule, with the lanes that are to be told of it.
-    pub fn enter(&mut self, session: Session) -> Lanes
+    pub fn enter(&mut self, new: Placed) -> Lanes
         requires settled { self.old.before ≡ self.old.now }
-        requires accepted { is_refused self.old.now session ≡ false }
-        ensures step { self.new.now ≡ arbitrated self.old.now session }
+        requires accepted { is_refused self.old.now new.session ≡ false }
+        requires placed { IsPlaced self.old.now new }
+        ensures step { self.new.now ≡ arbitrated self.old.now new.session }
         ensures before { self.new.before ≡ self.old.before }
-        ensures told { result ≡ told_at_arbitration self.old.now session }
+        ensures told { result ≡ told_at_arbitration self.old.now new.session }
     {
         self.step = Step::Entered {
-            caller: session.caller,
-            role: session.role,
-            session: sessions::copied_of(self.roles.session(session.caller)),
-            greatest: self.roles.received(session.role),
+            caller: new.session.caller,
+            role: new.session.role,
+            session: self.roles.session_at(new.place),
+            greatest: self.roles.received_at(new.known),
         };
-        self.roles.enter(session)
+        self.roles.enter(new)
     }
 
     /// The step by which a caller's session ends, if it has one.

@@ -3,7 +3,7 @@ ghost use Rattle.std.specs.Prelude.{◌≡◌, ◌<◌, ◌≤◌, List, length,
 ghost use Rattle.bm_expr.specs.Meaning.{NumberInStore};
 ghost use Rattle.bm_expr.specs.Store.{Contents};
 
-use bm_expr::{Number, Store, value};
+use bm_expr::{Number, NumberNode, Store, value};
 use pkt_bits::take;
 use std::alloc::{AllocError, Global};
 use std::io;
@@ -43,15 +43,18 @@ pub fn fields<R: Clock>(rt: &R, packet: &[u8]) -> io::Result<Measured>
 fn expression(alloc: Global) -> Result<Number, AllocError>
     ensures { (store : Contents) → (args : List ℕ) → 0 < length args → IfOk result (λ number. NumberInStore store args number) }
 {
-    let sum = Number::Add(
-        Box::new(alloc, Number::Datum(0))?,
-        Box::new(alloc, Number::Literal(3))?,
-    );
-    let product = Number::Multiply(Box::new(alloc, sum)?, Box::new(alloc, Number::Literal(5))?);
-    Ok(Number::BitXor(
+    let sum = Number::new(NumberNode::Add(
+        Box::new(alloc, Number::new(NumberNode::Datum(0)))?,
+        Box::new(alloc, Number::new(NumberNode::Literal(3)))?,
+    ));
+    let product = Number::new(NumberNode::Multiply(
+        Box::new(alloc, sum)?,
+        Box::new(alloc, Number::new(NumberNode::Literal(5)))?,
+    ));
+    Ok(Number::new(NumberNode::BitXor(
         Box::new(alloc, product)?,
-        Box::new(alloc, Number::Datum(0))?,
-    ))
+        Box::new(alloc, Number::new(NumberNode::Datum(0)))?,
+    )))
 }
 
 /// Computes an expression of three operators again and again.

@@ -1,4 +1,8 @@
 pub mod Answers
+pub mod BridgeBits
+pub mod BridgeIsProgram
+pub mod BridgePlanes
+pub mod BridgeUpdates
 pub mod Determined
 pub mod Fitting
 pub mod Following

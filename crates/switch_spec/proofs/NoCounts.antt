@@ -136,7 +136,7 @@ after_events : (list : List Event) (c : Control) → CountsNothing c → Legal c
 after_events [] c h legal = h
 after_events (event ∷ list) c h legal = after_events list (apply c event) (after_event event c h legal.0) legal.1
 
-at_start : (bridge : Bool) → InBridge (cond bridge (Some (record { config = bridge_config; entries = []; changed = []; cells = 0 })) None)
+at_start : (bridge : Bool) → InBridge (cond bridge (Some (record { config = bridge_config; entries = []; changed = []; members = []; groups = []; digests = []; cells = 0 })) None)
 at_start true = (refl, tt)
 at_start false = tt
 

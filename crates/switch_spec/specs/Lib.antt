@@ -1,4 +1,5 @@
 pub mod Answer
+pub mod BridgeLaw
 pub mod Counts
 pub mod History
 pub mod Meaning

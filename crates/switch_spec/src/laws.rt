@@ -1,5 +1,6 @@
 //! Laws about the definitions. Each function's contract is the law; its body does nothing.
 ghost use Rattle.switch_spec.specs.Answer.{EventsIgnoreFigures};
+ghost use Rattle.switch_spec.specs.BridgeLaw.{BridgeIsItsProgram, BridgePlanesStay, UpdatesAreTheBridges};
 ghost use Rattle.switch_spec.specs.Play.{PlayedIsReport};
 ghost use Rattle.switch_spec.specs.Report.{TapeDeterminesReport};
 ghost use Rattle.switch_spec.specs.Rows.{EmptyTape, OneEntryOnePacket, InsertTwice, TableFull, ShortPacket, BackupWaits};
@@ -27,4 +28,15 @@ pub fn worked_runs()
     ensures table_full { TableFull }
     ensures short_packet { ShortPacket }
     ensures backup_waits { BackupWaits }
+{}
+
+/// What becomes of a packet in the bridge's plane is what the bridge's program makes of it.
+pub fn bridge_is_its_program()
+    ensures law { BridgeIsItsProgram }
+{}
+
+/// A plane of the bridge is one of which that holds, in each state of a run.
+pub fn bridge_planes_stay()
+    ensures updates { UpdatesAreTheBridges }
+    ensures planes { BridgePlanesStay }
 {}

@@ -66,7 +66,7 @@ fn piece_of(alloc: Global) -> Result<Vec<u8>, AllocError>
 }
 
 /// All bytes that are left, up to one more than a tape may have, and how their reading ended.
-fn take_bytes<S: Source>(alloc: Global, source: &mut S) -> Result<(Vec<u8>, Ended), AllocError>
+pub fn take_bytes<S: Source>(alloc: Global, source: &mut S) -> Result<(Vec<u8>, Ended), AllocError>
     ensures ok { IfOk result (λ x. IsTakenFrom (S.left source.old) (S.left source.new) x.0.items) }
     ensures ended { IfOk result (λ x. EndsSo x.1 (S.left source.new) (S.faults source.old) (S.faults source.new)) }
     ensures within { IfOk result (λ x. EndsWithin x.1 x.0.items) }

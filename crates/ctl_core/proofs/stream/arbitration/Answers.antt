@@ -12,7 +12,7 @@ pub returns-clause-prepared : goal.returns-clause-prepared
 returns-clause-prepared c =
     let s = c.args.image.now.now in
     let update = c.args.update.now in
-    let session = c.in-Ok.session in
+    let session = c.in-Ok.new.session in
     let roles_are = c.roles-2.ensures ∙ ap (λ x. x.roles) c.enter-lanes.ensures.now in
     let device_is = c.device-2.ensures ∙ ap (λ x. x.device) c.enter-lanes.ensures.now in
     let lanes_are = c.as_slice.ensures ∙ c.enter-lanes.ensures.told in

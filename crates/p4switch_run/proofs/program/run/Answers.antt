@@ -1,6 +1,87 @@
-use Rattle.p4switch_run.proofs.Completeness.{complete}
+use Rattle.std.proofs.Common.{map, refl, sym, ◌∙◌}
+use Rattle.p4switch_run.specs.Replay.{streams}
+use Rattle.p4switch_run.proofs.Endings as endings
 use Rattle.p4switch_run.proofs.program.run.Goals as goal
 
+pub returns-clause-report : goal.returns-clause-report
+returns-clause-report g c =
+    let old = streams (g.S.Source.left c.args.tape.now) (g.O.Sink.sent c.args.out.now) (g.S.Source.faults c.args.tape.now) (g.O.Sink.faults c.args.out.now) in
+    let new = streams (g.S.Source.left c.status_of-status.new.tape) (g.O.Sink.sent c.status_of-status.new.out) (g.S.Source.faults c.status_of-status.new.tape) (g.O.Sink.faults c.status_of-status.new.out) in
+    let words = map (λ word. word.now) c.args.words.now in
+    λ e. endings.reports _ c.status_of-status.result words old new refl c.status_of-status.ensures.ends (sym c.number.ensures ∙ e)
+
+pub returns-clause-read_fault : goal.returns-clause-read_fault
+returns-clause-read_fault g c =
+    let old = streams (g.S.Source.left c.args.tape.now) (g.O.Sink.sent c.args.out.now) (g.S.Source.faults c.args.tape.now) (g.O.Sink.faults c.args.out.now) in
+    let new = streams (g.S.Source.left c.status_of-status.new.tape) (g.O.Sink.sent c.status_of-status.new.out) (g.S.Source.faults c.status_of-status.new.tape) (g.O.Sink.faults c.status_of-status.new.out) in
+    let words = map (λ word. word.now) c.args.words.now in
+    λ e. endings.read_fault _ c.status_of-status.result words old new refl c.status_of-status.ensures.ends (sym c.number.ensures ∙ e)
+
+pub returns-clause-write_fault : goal.returns-clause-write_fault
+returns-clause-write_fault g c =
+    let old = streams (g.S.Source.left c.args.tape.now) (g.O.Sink.sent c.args.out.now) (g.S.Source.faults c.args.tape.now) (g.O.Sink.faults c.args.out.now) in
+    let new = streams (g.S.Source.left c.status_of-status.new.tape) (g.O.Sink.sent c.status_of-status.new.out) (g.S.Source.faults c.status_of-status.new.tape) (g.O.Sink.faults c.status_of-status.new.out) in
+    let words = map (λ word. word.now) c.args.words.now in
+    λ e. endings.write_fault _ c.status_of-status.result words old new refl c.status_of-status.ensures.ends (sym c.number.ensures ∙ e)
+
+pub returns-clause-too_long : goal.returns-clause-too_long
+returns-clause-too_long g c =
+    let old = streams (g.S.Source.left c.args.tape.now) (g.O.Sink.sent c.args.out.now) (g.S.Source.faults c.args.tape.now) (g.O.Sink.faults c.args.out.now) in
+    let new = streams (g.S.Source.left c.status_of-status.new.tape) (g.O.Sink.sent c.status_of-status.new.out) (g.S.Source.faults c.status_of-status.new.tape) (g.O.Sink.faults c.status_of-status.new.out) in
+    let words = map (λ word. word.now) c.args.words.now in
+    λ e. endings.too_long _ c.status_of-status.result words old new refl c.status_of-status.ensures.ends (sym c.number.ensures ∙ e)
+
+pub returns-clause-flawed : goal.returns-clause-flawed
+returns-clause-flawed g c =
+    let old = streams (g.S.Source.left c.args.tape.now) (g.O.Sink.sent c.args.out.now) (g.S.Source.faults c.args.tape.now) (g.O.Sink.faults c.args.out.now) in
+    let new = streams (g.S.Source.left c.status_of-status.new.tape) (g.O.Sink.sent c.status_of-status.new.out) (g.S.Source.faults c.status_of-status.new.tape) (g.O.Sink.faults c.status_of-status.new.out) in
+    let words = map (λ word. word.now) c.args.words.now in
+    λ e. endings.flawed _ c.status_of-status.result words old new refl c.status_of-status.ensures.ends (sym c.number.ensures ∙ e)
+
+pub returns-clause-not_a_tape : goal.returns-clause-not_a_tape
+returns-clause-not_a_tape g c =
+    let old = streams (g.S.Source.left c.args.tape.now) (g.O.Sink.sent c.args.out.now) (g.S.Source.faults c.args.tape.now) (g.O.Sink.faults c.args.out.now) in
+    let new = streams (g.S.Source.left c.status_of-status.new.tape) (g.O.Sink.sent c.status_of-status.new.out) (g.S.Source.faults c.status_of-status.new.tape) (g.O.Sink.faults c.status_of-status.new.out) in
+    let words = map (λ word. word.now) c.args.words.now in
+    λ e. endings.not_a_tape _ c.status_of-status.result _ old new c.status_of-status.ensures.ends (record { answer = c.tell.result; said = c.tell.ensures }) (sym c.number.ensures ∙ e)
+
+pub returns-clause-refused : goal.returns-clause-refused
+returns-clause-refused g c =
+    let old = streams (g.S.Source.left c.args.tape.now) (g.O.Sink.sent c.args.out.now) (g.S.Source.faults c.args.tape.now) (g.O.Sink.faults c.args.out.now) in
+    let new = streams (g.S.Source.left c.status_of-status.new.tape) (g.O.Sink.sent c.status_of-status.new.out) (g.S.Source.faults c.status_of-status.new.tape) (g.O.Sink.faults c.status_of-status.new.out) in
+    let words = map (λ word. word.now) c.args.words.now in
+    λ e. endings.refused _ c.status_of-status.result words old new refl c.status_of-status.ensures.ends (sym c.number.ensures ∙ e)
+
+pub returns-clause-command : goal.returns-clause-command
+returns-clause-command g c =
+    let old = streams (g.S.Source.left c.args.tape.now) (g.O.Sink.sent c.args.out.now) (g.S.Source.faults c.args.tape.now) (g.O.Sink.faults c.args.out.now) in
+    let new = streams (g.S.Source.left c.status_of-status.new.tape) (g.O.Sink.sent c.status_of-status.new.out) (g.S.Source.faults c.status_of-status.new.tape) (g.O.Sink.faults c.status_of-status.new.out) in
+    let words = map (λ word. word.now) c.args.words.now in
+    λ not. endings.command _ c.status_of-status.result words old new refl c.status_of-status.ensures.ends (λ e. not (c.number.ensures ∙ e))
+
+pub returns-clause-statuses : goal.returns-clause-statuses
+returns-clause-statuses g c = rw c.number.ensures (endings.at_most_8 c.status_of-status.result)
+
+pub returns-clause-no_net : goal.returns-clause-no_net
+returns-clause-no_net g c = λ e. endings.never_7 c.status_of-status.result (sym c.number.ensures ∙ e)
+
+pub returns-clause-nothing : goal.returns-clause-nothing
+returns-clause-nothing g c =
+    let old = streams (g.S.Source.left c.args.tape.now) (g.O.Sink.sent c.args.out.now) (g.S.Source.faults c.args.tape.now) (g.O.Sink.faults c.args.out.now) in
+    let new = streams (g.S.Source.left c.status_of-status.new.tape) (g.O.Sink.sent c.status_of-status.new.out) (g.S.Source.faults c.status_of-status.new.tape) (g.O.Sink.faults c.status_of-status.new.out) in
+    let words = map (λ word. word.now) c.args.words.now in
+    λ x y z. endings.nothing _ c.status_of-status.result old new c.status_of-status.ensures.ends (λ e. x (c.number.ensures ∙ e)) (λ e. y (c.number.ensures ∙ e)) (λ e. z (c.number.ensures ∙ e))
+
 pub returns-clause-complete : goal.returns-clause-complete
-returns-clause-complete g c command holds reads writes =
-    rw c.number.ensures (complete c.status_of-status.result _ _ _ c.status_of-status.ensures.ends command holds reads writes)
+returns-clause-complete g c start command holds reads writes =
+    let old = streams (g.S.Source.left c.args.tape.now) (g.O.Sink.sent c.args.out.now) (g.S.Source.faults c.args.tape.now) (g.O.Sink.faults c.args.out.now) in
+    let new = streams (g.S.Source.left c.status_of-status.new.tape) (g.O.Sink.sent c.status_of-status.new.out) (g.S.Source.faults c.status_of-status.new.tape) (g.O.Sink.faults c.status_of-status.new.out) in
+    let words = map (λ word. word.now) c.args.words.now in
+    rw c.number.ensures (endings.complete _ c.status_of-status.result words old new refl c.status_of-status.ensures.ends start command holds reads writes)
+
+pub returns-clause-judged : goal.returns-clause-judged
+returns-clause-judged g c command holds reads writes =
+    let old = streams (g.S.Source.left c.args.tape.now) (g.O.Sink.sent c.args.out.now) (g.S.Source.faults c.args.tape.now) (g.O.Sink.faults c.args.out.now) in
+    let new = streams (g.S.Source.left c.status_of-status.new.tape) (g.O.Sink.sent c.status_of-status.new.out) (g.S.Source.faults c.status_of-status.new.tape) (g.O.Sink.faults c.status_of-status.new.out) in
+    let words = map (λ word. word.now) c.args.words.now in
+    rw c.number.ensures (endings.judged _ c.status_of-status.result words old new refl c.status_of-status.ensures.ends command holds reads writes)

@@ -1,6 +1,5 @@
-use Rattle.std.proofs.Common.{◌≡◌, ℕ, ◌*◌, ◌%◌, ◌-◌, ◌/◌, ◌^◌, sym, ap, subst, ◌∙◌, arith}
-use Rattle.std.specs.Int.Bits.{bit_and}
-use Rattle.pkt_bits.proofs.Pieces.{put_turn, part_is, field_start, same_start, value_start, put_spliced}
+use Rattle.std.proofs.Common.{◌≡◌, ℕ, ◌*◌, ◌%◌, ◌-◌, ◌/◌, ◌^◌, ◌+◌, sym, ap, subst, ◌∙◌, arith}
+use Rattle.pkt_bits.proofs.Pieces.{put_piece, field_start, same_start, value_start, put_spliced}
 use Rattle.pkt_bits.specs.Field.{field, SameOutside}
 use Rattle.pkt_bits.proofs.fields.put.Goals as goal
 
@@ -17,11 +16,13 @@ pub loop-left-preserved : goal.loop-left-preserved
 loop-left-preserved c =
     let l = c.loop-left in
     let size = c.min-size.result in
-    let part = bit_and (c.args.value / 2 ^ (l.left - size)) (1 * 2 ^ size % 340282366920938463463374607431768211456 - 1) in
-    let turn = put_turn c.args.bytes.now l.bytes l.place l.offset c.args.bit c.args.width l.left size c.args.value part c.with_chunk.result
-    (omega (arith, c.min-size.ensures)) (omega (arith, c.min-size.ensures)) (omega (arith, c.min-size.ensures)) (omega arith)
-    (l.invariant.here (omega arith)) (omega (arith, c.requires.in_range, l.invariant.others.as_long))
-    (part_is (c.args.value / 2 ^ (l.left - size)) size (omega (arith, c.min-size.ensures))) c.with_chunk.ensures l.invariant.so_far l.invariant.others in
+    let here : l.place * 8 + l.offset ≡ c.args.bit + (c.args.width - l.left) = l.invariant.here (omega arith) in
+    let number : field c.put_short-in-loop-left.new.bytes (c.args.bit + (c.args.width - l.left)) size ≡ c.low_bits-part.result =
+    ap (λ x. field c.put_short-in-loop-left.new.bytes x size) (sym here) ∙ c.put_short-in-loop-left.ensures.number in
+    let Same : ℕ → Type 0 = λ x. SameOutside l.bytes c.put_short-in-loop-left.new.bytes x size in
+    let turn = put_piece c.args.bytes.now l.bytes c.put_short-in-loop-left.new.bytes c.args.bit c.args.width l.left size c.args.value c.low_bits-part.result
+    (omega (arith, c.min-size.ensures)) (omega arith) (omega (arith, c.requires.in_range, l.invariant.others.as_long))
+    c.low_bits-part.ensures.number number (subst Same here c.put_short-in-loop-left.ensures.others) l.invariant.so_far l.invariant.others in
     record {
       within = omega arith;
       few = omega arith;
@@ -39,3 +40,11 @@ returns-clause-spliced c =
     let number : field l.bytes c.args.bit c.args.width ≡ c.args.value = sym (ap (field l.bytes c.args.bit) whole) ∙ l.invariant.so_far ∙ value in
     let Same : ℕ → Type 0 = λ n. SameOutside c.args.bytes.now l.bytes c.args.bit n in
     put_spliced c.args.bytes.now l.bytes c.args.bit c.args.width c.args.value (omega (arith, c.requires.in_range)) number (subst Same whole l.invariant.others)
+
+pub returns-then-offset-width-le64-clause-spliced : goal.returns-then-offset-width-le64-clause-spliced
+returns-then-offset-width-le64-clause-spliced c =
+    let here : c.args.bit / 8 * 8 + c.args.bit % 8 ≡ c.args.bit = omega arith in
+    let new = c.put_short.new.bytes in
+    let Same : ℕ → Type 0 = λ x. SameOutside c.args.bytes.now new x c.args.width in
+    put_spliced c.args.bytes.now new c.args.bit c.args.width c.args.value (omega (arith, c.requires.in_range))
+    (ap (λ x. field new x c.args.width) (sym here) ∙ c.put_short.ensures.number) (subst Same here c.put_short.ensures.others)

@@ -1,0 +1,3 @@
+pub mod Graph
+pub mod Places
+pub mod Validity

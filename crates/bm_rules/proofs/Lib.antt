@@ -1,0 +1,4 @@
+pub mod Inside
+pub mod Laid
+pub mod Peeled
+pub mod Sameness

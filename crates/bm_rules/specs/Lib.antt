@@ -1,0 +1,9 @@
+pub mod Names
+pub mod Fields
+pub mod Kinds
+pub mod References
+pub mod Graphs
+pub mod Peeling
+pub mod Operations
+pub mod Agreement
+pub mod Flaw

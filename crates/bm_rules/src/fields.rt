@@ -1,0 +1,132 @@
+//! Headers and fields by their names.
+ghost use Rattle.std.specs.Prelude.{◌≡◌, ◌+◌, ◌*◌, ◌/◌, ℕ, map, nat_lt, option_copied, option_map, sum_by};
+ghost use Rattle.bm_rules.specs.Names.{place_of};
+ghost use Rattle.bm_rules.specs.Fields.{header_named, has_header, fields_of, field_by_names, field_named, is_validity, is_readable, is_writable, is_part, bits_of, bits_of_names, read_width, part_width};
+
+use crate::names;
+use crate::scope::Scope;
+use bm_records::raw::{FieldName, Header, Part, RawField, RawWidth, TypeField};
+use list_types::Text;
+
+pub(crate) fn header_named<'a>(scope: &Scope<'a>, name: &str) -> Option<&'a Header>
+    ensures { option_copied result ≡ header_named scope.now.raw.now name.now }
+{
+    names::named(scope.raw.headers.as_slice(), name)
+}
+
+/// Whether there is a header of a name.
+pub(crate) fn has_header(scope: &Scope, name: &str) -> bool
+    ensures { result ≡ has_header scope.now.raw.now name.now }
+{
+    header_named(scope, name).is_some()
+}
+
+/// Whether a header that is served is there.
+pub(crate) fn is_header(scope: &Scope, name: &Part<Text>) -> bool
+    ensures { result ≡ is_part (has_header scope.now.raw.now) name.now }
+{
+    match name {
+        Part::Served(name) => has_header(scope, name.as_str()),
+        Part::LeftOut => true,
+    }
+}
+
+/// The fields of the header of a name.
+fn fields_named<'a>(scope: &Scope<'a>, name: &str) -> Option<&'a [TypeField]>
+    ensures { option_map (λ fields. fields.now) result ≡ option_map (fields_of scope.now.raw.now) (header_named scope.now.raw.now name.now) }
+{
+    match names::place_of(scope.raw.headers.as_slice(), name) {
+        None => None,
+        Some(place) => scope.layout.get(place).copied(),
+    }
+}
+
+fn field_by_names<'a>(scope: &Scope<'a>, header: &str, field: &str) -> Option<&'a TypeField>
+    ensures { option_copied result ≡ field_by_names scope.now.raw.now header.now field.now }
+{
+    match fields_named(scope, header) {
+        None => None,
+        Some(fields) => names::named(fields, field),
+    }
+}
+
+fn field_named<'a>(scope: &Scope<'a>, name: &FieldName) -> Option<&'a TypeField>
+    ensures { option_copied result ≡ field_named scope.now.raw.now name.now }
+{
+    field_by_names(scope, name.header.as_str(), name.field.as_str())
+}
+
+fn is_validity(name: &FieldName) -> bool
+    ensures { result ≡ is_validity name.now }
+{
+    name.field.as_str() == "$valid$"
+}
+
+/// Whether a name that is read stands for a field or the validity of a header.
+pub(crate) fn is_readable(scope: &Scope, name: &FieldName) -> bool
+    ensures { result ≡ is_readable scope.now.raw.now name.now }
+{
+    if is_validity(name) {
+        has_header(scope, name.header.as_str())
+    } else {
+        field_named(scope, name).is_some()
+    }
+}
+
+/// Whether a name that is written stands for a field.
+pub(crate) fn is_writable(scope: &Scope, name: &FieldName) -> bool
+    ensures { result ≡ is_writable scope.now.raw.now name.now }
+{
+    !is_validity(name) && field_named(scope, name).is_some()
+}
+
+/// The same of a name that is served and is read.
+pub(crate) fn is_read(scope: &Scope, name: &RawField) -> bool
+    ensures { result ≡ is_part (is_readable scope.now.raw.now) name.now }
+{
+    match name {
+        Part::Served(name) => is_readable(scope, name),
+        Part::LeftOut => true,
+    }
+}
+
+/// The same of one that is written.
+pub(crate) fn is_target(scope: &Scope, name: &RawField) -> bool
+    ensures { result ≡ is_part (is_writable scope.now.raw.now) name.now }
+{
+    match name {
+        Part::Served(name) => is_writable(scope, name),
+        Part::LeftOut => true,
+    }
+}
+
+/// The bits of a width; one that is left out counts as 0.
+pub(crate) fn bits_of(width: &RawWidth) -> u32
+    ensures { result ≡ bits_of width.now }
+{
+    match width {
+        Part::Served(bits) => *bits,
+        Part::LeftOut => 0,
+    }
+}
+
+/// The bits of the field of these names, 0 where there is none.
+pub(crate) fn bits_of_names(scope: &Scope, header: &str, field: &str) -> u32
+    ensures { result ≡ bits_of_names scope.now.raw.now header.now field.now }
+{
+    match field_by_names(scope, header, field) {
+        None => 0,
+        Some(field) => bits_of(&field.width),
+    }
+}
+
+/// The width in bits of what is read as a field: one bit where it is a validity.
+pub(crate) fn read_width(scope: &Scope, name: &FieldName) -> u32
+    ensures { result ≡ read_width scope.now.raw.now name.now }
+{
+    if is_validity(name) {
+        1
+    } else {
+        bits_of_names(scope, name.header.as_str(), name.field.as_str())
+    }
+}

@@ -1,0 +1,18 @@
+//! The rules of a program in BMv2's JSON form that ask for what its names stand for: L4 to L15.
+#![tactic(auto)]
+
+mod agreement;
+mod edges;
+mod fields;
+mod graphs;
+mod keys;
+mod kinds;
+mod names;
+mod nexts;
+mod operations;
+mod references;
+mod rules;
+mod scope;
+mod twice;
+
+pub use rules::flaw;

@@ -1,0 +1,92 @@
+//! The rules L4 to L15, and the first one that a program breaks.
+ghost use Rattle.std.specs.Prelude.{◌≡◌, map, IfOk, OnOk};
+ghost use Rattle.bm_rules.specs.Fields.{fields_of, layout_of};
+ghost use Rattle.bm_rules.specs.Flaw.{flaw, later_flaw};
+
+use crate::scope::Scope;
+use crate::{agreement, edges, keys, names, operations, references, twice};
+use bm_records::raw::{Header, RawProgram, TypeField};
+use list_types::NoMemory;
+use p4_types::info::Info;
+use std::alloc::Global;
+
+fn fields_of<'a>(raw: &'a RawProgram, header: &Header) -> &'a [TypeField]
+    ensures { result.now ≡ fields_of raw.now header.now }
+{
+    match names::named(raw.header_types.as_slice(), header.header_type.as_str()) {
+        Some(header_type) => header_type.fields.as_slice(),
+        None => &[],
+    }
+}
+
+fn layout_of<'a>(alloc: Global, raw: &'a RawProgram) -> Result<Vec<&'a [TypeField]>, NoMemory>
+    ensures { IfOk result (λ layout. map (λ fields. fields.now) layout.items ≡ layout_of raw.now) }
+{
+    let mut layout = Vec::new(alloc);
+    for header in raw.headers.as_slice() {
+        layout.push(fields_of(raw, header))?;
+    }
+    Ok(layout)
+}
+
+// The first of L8 to L15.
+fn later_flaw(scope: &Scope, info: &Info) -> Option<u8>
+    ensures { result ≡ later_flaw scope.now.raw.now info.now }
+{
+    let raw = scope.raw;
+    if operations::operations_unknown(raw) {
+        Some(8)
+    } else if !operations::expressions_typed(raw) {
+        Some(9)
+    } else if !agreement::tables_agree(scope, info) {
+        Some(10)
+    } else if !agreement::references_agree(raw, info) {
+        Some(11)
+    } else if !agreement::profiles_agree(raw, info) {
+        Some(12)
+    } else if !agreement::counters_agree(raw, info) {
+        Some(13)
+    } else if !agreement::digests_agree(raw, info) {
+        Some(14)
+    } else if !agreement::has_egress_spec(scope) {
+        Some(15)
+    } else {
+        None
+    }
+}
+
+#[tactic(auto, unfolding(crate::specs::Flaw::flaw))]
+fn flaw_in(alloc: Global, scope: &Scope, info: &Info) -> Result<Option<u8>, NoMemory>
+    ensures { IfOk result (λ rule. rule ≡ flaw scope.now.raw.now info.now) }
+{
+    let raw = scope.raw;
+    if twice::names_clash(alloc, raw)? {
+        return Ok(Some(4));
+    }
+    if !references::references_known(alloc, scope)? {
+        return Ok(Some(5));
+    }
+    if keys::keys_exceed(scope) {
+        return Ok(Some(1));
+    }
+    if edges::states_loop(alloc, &raw.parser)? {
+        return Ok(Some(6));
+    }
+    if edges::nodes_loop(alloc, &raw.pipelines)? {
+        return Ok(Some(7));
+    }
+    Ok(later_flaw(scope, info))
+}
+
+/// The first of the rules L4 to L15 that a program breaks under a P4Info, by its number; 1 where the key of a transition is
+/// too wide. None where it breaks none.
+pub fn flaw(alloc: Global, raw: &RawProgram, info: &Info) -> Result<Option<u8>, NoMemory>
+    ensures { IfOk result (λ rule. rule ≡ flaw raw.now info.now) }
+{
+    let layout = layout_of(alloc, raw)?;
+    let scope = Scope {
+        raw,
+        layout: layout.as_slice(),
+    };
+    flaw_in(alloc, &scope, info)
+}

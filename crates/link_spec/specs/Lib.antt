@@ -1,0 +1,5 @@
+pub mod Fields
+pub mod Expressions
+pub mod Objects
+pub mod Tables
+pub mod Linked

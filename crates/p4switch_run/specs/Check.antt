@@ -1,0 +1,75 @@
+-- What each answer of the check of a configuration says of what was read and written.
+use Rattle.std.specs.Prelude.{◌≡◌, ℕ, ◌<◌, ◌≤◌, List, ◌++◌, length, Option, None, Some, ⊤, codes}
+use Rattle.std.specs.Fmt.{decimal}
+use Rattle.config_rules.specs.declared.rule.ConfigRule.{ConfigRule}
+use Rattle.config_rules.specs.declared.rule.ConfigRule.TheVariants as flaws
+use Rattle.config_rules.specs.Flaw.{config_flaw}
+use Rattle.sw_edge.specs.Counts.{Rose}
+use Rattle.sw_edge.specs.Told.{Consumes, IsAtEnd, Appends, AppendsPrefix}
+use Rattle.p4switch_run.specs.declared.status.Status.{Status}
+use Rattle.p4switch_run.specs.declared.status.Status.TheVariants as statuses
+use Rattle.p4switch_run.specs.Replay.{Streams, Nothing}
+
+-- the line that says which rule a configuration breaks first, if it breaks one
+abbrev pub verdict_line : Option ConfigRule → List ℕ
+verdict_line None = codes "ok\n"
+verdict_line (Some (flaws.Info rule)) = codes "refused I" ++ decimal rule ++ codes "\n"
+verdict_line (Some (flaws.Program rule)) = codes "refused L" ++ decimal rule ++ codes "\n"
+
+-- all that was left was taken, 67,108,864 bytes at most, and this is the first rule that it breaks as a configuration
+pub record HasFlaw (flaw : Option ConfigRule) (old new : Option (List ℕ)) : Type 0 where
+  pub taken : List ℕ
+  pub consumed : Consumes old new taken
+  pub at_end : IsAtEnd new
+  pub size : length taken ≤ 67108864
+  pub flaw_is : flaw ≡ config_flaw taken
+
+-- the line was written
+pub record IsJudged (flaw : Option ConfigRule) (old new : Streams) : Type 0 where
+  pub has : HasFlaw flaw old.left new.left
+  pub written : Appends old.sent new.sent (verdict_line flaw)
+
+-- some first bytes of it were, since the sink failed
+pub record IsJudgedShort (old new : Streams) : Type 0 where
+  pub flaw : Option ConfigRule
+  pub has : HasFlaw flaw old.left new.left
+  pub written : AppendsPrefix old.sent new.sent (verdict_line flaw)
+  pub fault : Rose old.write_faults new.write_faults
+
+-- the configuration breaks a rule
+pub record IsRefused (old new : Streams) : Type 0 where
+  pub rule : ConfigRule
+  pub judged : IsJudged (Some rule) old new
+
+-- more bytes were taken than a configuration may have
+pub record IsPast (old new : Option (List ℕ)) : Type 0 where
+  pub taken : List ℕ
+  pub consumed : Consumes old new taken
+  pub past : 67108864 < length taken
+
+-- how a check ends whose line was written
+abbrev pub status_of : Option ConfigRule → Status
+status_of None = statuses.Done
+status_of (Some rule) = statuses.Refused
+
+-- why nothing was read whole
+abbrev pub Unread : Status → Option (List ℕ) → Option (List ℕ) → ℕ → ℕ → Type 0
+Unread statuses.Done old new before now = ⊥
+Unread (statuses.NotATape place) old new before now = ⊥
+Unread statuses.WordsRefused old new before now = ⊥
+Unread statuses.NoMemory old new before now = ⊤
+Unread statuses.ReadFault old new before now = Rose before now
+Unread statuses.WriteFault old new before now = ⊥
+Unread statuses.TooLong old new before now = IsPast old new
+Unread statuses.Refused old new before now = ⊥
+
+-- what each answer says; a check is of no tape, and does not refuse words
+abbrev pub Checks : Status → Streams → Streams → Type 0
+Checks statuses.Done old new = IsJudged None old new
+Checks (statuses.NotATape place) old new = ⊥
+Checks statuses.WordsRefused old new = ⊥
+Checks statuses.NoMemory old new = Nothing old new ⊤
+Checks statuses.ReadFault old new = Nothing old new (Rose old.read_faults new.read_faults)
+Checks statuses.WriteFault old new = IsJudgedShort old new
+Checks statuses.TooLong old new = Nothing old new (IsPast old.left new.left)
+Checks statuses.Refused old new = IsRefused old new

@@ -1,0 +1,10 @@
+use Rattle.std.proofs.Common.{◌≡◌, take, fold}
+use Rattle.program_spec.specs.Checksums.{verified}
+use Rattle.pkt_codec.specs.Room.{AreAsLarge}
+use Rattle.pkt_codec.proofs.sums.verify_sums.Given as goal
+
+abbrev pub invariant-loop-checksum : goal.invariant-loop-checksum
+invariant-loop-checksum l = record {
+  done : l.store ≡ fold (verified l.program) l.initial.store (take l.checksum-index l.program.checksums);
+  as_large : AreAsLarge l.initial.store l.store;
+}
