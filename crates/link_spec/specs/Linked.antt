@@ -4,7 +4,6 @@ use Rattle.p4_types.specs.declared.info.Info.{Info}
 use Rattle.bm_records.specs.declared.raw.RawProgram.{RawProgram}
 use Rattle.bm_json.specs.Program as json
 use Rattle.bm_pipeline.specs.declared.program.Program.{Program}
-use Rattle.bm_rules.specs.Flaw as rules
 use Rattle.link_spec.specs.Fields.{header_at, headers_from, fields_before, standard_metadata_of}
 use Rattle.link_spec.specs.Objects.{errors_of, parser_of, calculation_of, checksum_of, learn_list_of, action_of}
 use Rattle.link_spec.specs.Tables.{ingress, egress, node_of, tables_of, conditionals_of}
@@ -28,16 +27,6 @@ program_of raw info =
       ingress = node_of (ingress raw) raw.pipelines.ingress.init_table;
       egress = node_of (egress raw) raw.pipelines.egress.init_table;
     }
-
--- the first of the rules L1 to L15 that a device configuration breaks under a P4Info, by what is read of it and its flaw of L1 to L3
-abbrev pub flaw_by : Info → Option ℕ → Option RawProgram → Option ℕ
-flaw_by info (Some rule) raw = Some rule
-flaw_by info None None = None
-flaw_by info None (Some raw) = rules.flaw raw info
-
--- the same by its bytes
-abbrev pub flaw : Info → List ℕ → Option ℕ
-flaw info bytes = flaw_by info (json.flaw bytes) (json.program_in bytes)
 
 -- the program that a device configuration is linked to, where it breaks no rule
 abbrev pub linked_by : Info → Option RawProgram → Option Program
