@@ -1,5 +1,5 @@
 //! The fields and valid headers of one packet.
-ghost use Rattle.std.specs.Prelude.{◌≡◌, ◌⊎◌, ◌+◌, ◌<◌, ◌≤◌, length, replicate, IfOk};
+ghost use Rattle.std.specs.Prelude.{◌≡◌, ◌⊎◌, ◌+◌, ◌<◌, ◌≤◌, ◌++◌, [], ◌∷◌, length, replicate, vec_len, vec_capacity, IfOk};
 ghost use Rattle.std.specs.List.{splice, slice_range};
 ghost use Rattle.bm_expr.specs.Store.{header_valid, field_read, field_written, validity_written, assigned, cleared, header_added, header_assigned, AreApart};
 
@@ -7,6 +7,12 @@ use crate::operators::cut;
 use list_types::NoMemory;
 use std::alloc::Global;
 use std::marker::Model;
+
+/// For how many fields a store always has room.
+const FIELD_ROOM: usize = 1_024;
+
+/// For how many headers a store always has room.
+const HEADER_ROOM: usize = 128;
 
 /// A field: where its number stands, its header, and its width in bits.
 #[derive(Clone, Copy)]
@@ -51,7 +57,39 @@ fn copy(fields: &mut [u128], from: usize, to: usize, count: usize)
     }
 }
 
-/// The number of each field and the validity of each header.
+// Adds an item, for which there is room. It takes no memory.
+fn add<T: Copy>(items: &mut Vec<T>, item: T)
+    requires room { vec_len items.old < vec_capacity items.old }
+    ensures items { items.new.items ≡ items.old.items ++ item ∷ [] }
+    ensures room { vec_capacity items.old ≤ vec_capacity items.new }
+{
+    let _ = items.push(item);
+}
+
+// Makes a vector one of so many equal items, for which it has room. It takes no memory.
+fn refill<T: Copy>(items: &mut Vec<T>, count: usize, item: T)
+    requires room { count ≤ vec_capacity items.old }
+    ensures items { items.new.items ≡ replicate count item }
+    ensures room { vec_capacity items.old ≤ vec_capacity items.new }
+{
+    items.clear();
+    for _ in 0..count {
+        add(items, item);
+    }
+}
+
+// A vector of so many equal items, with room for others.
+fn filled<T: Copy>(alloc: Global, room: usize, count: usize, item: T) -> Result<Vec<T>, NoMemory>
+    requires room { count ≤ room }
+    ensures items { IfOk result (λ filled. filled.items ≡ replicate count item) }
+    ensures room { IfOk result (λ filled. room ≤ vec_capacity filled) }
+{
+    let mut items = Vec::with_capacity(alloc, room)?;
+    refill(&mut items, count, item);
+    Ok(items)
+}
+
+/// The number of each field and the validity of each header, with room for 1,024 fields and 128 headers at least.
 #[derive(Drop)]
 pub struct Store {
     fields: Vec<u128>,
@@ -59,11 +97,14 @@ pub struct Store {
 }
 
 impl Model for Store {
+    ghost use Rattle.std.specs.Prelude.{◌≤◌, vec_capacity};
     ghost use Rattle.bm_expr.specs.Store as spec;
 
     ghost Value = { spec.Contents };
 
     ghost view = { λ store. record { fields = store.fields.items; valid = store.valid.items } };
+
+    ghost invariant = { λ store. (1024 ≤ vec_capacity store.fields) × (128 ≤ vec_capacity store.valid) };
 }
 
 impl Store {
@@ -71,9 +112,20 @@ impl Store {
     pub fn open(alloc: Global, fields: usize, headers: usize) -> Result<Store, NoMemory>
         ensures { IfOk result (λ store. store ≡ cleared fields headers) }
     {
-        let fields = vec![in alloc; 0u128; fields]?;
-        let valid = vec![in alloc; false; headers]?;
-        Ok(Store { fields, valid })
+        Ok(Store {
+            fields: filled(alloc, FIELD_ROOM.max(fields), fields, 0)?,
+            valid: filled(alloc, HEADER_ROOM.max(headers), headers, false)?,
+        })
+    }
+
+    /// Makes it a store of so many fields and headers, as one that was just opened. It takes no memory.
+    pub fn fit(&mut self, fields: usize, headers: usize)
+        requires fields_in_room { fields ≤ 1024 }
+        requires headers_in_room { headers ≤ 128 }
+        ensures { self.new ≡ cleared fields headers }
+    {
+        refill(&mut self.fields, fields, 0);
+        refill(&mut self.valid, headers, false);
     }
 
     /// The number of a field, which is 0 where its header is invalid.

@@ -2,6 +2,7 @@
 #![tactic(auto)]
 
 mod faults;
+pub mod laws;
 mod left_out;
 mod limits;
 mod program;

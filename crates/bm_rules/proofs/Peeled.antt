@@ -25,7 +25,7 @@ or_right : (a b : Bool) → (a || b) ≡ false → b ≡ false
 or_right true b h = absurd (let c : ⊥ = cc in c)
 or_right false b h = h
 
-neither : (a b : Bool) → a ≡ false → b ≡ false → (a || b) ≡ false
+pub neither : (a b : Bool) → a ≡ false → b ≡ false → (a || b) ≡ false
 neither true b h k = absurd (let c : ⊥ = cc in c)
 neither false b h k = k
 
@@ -42,7 +42,7 @@ none_of test other [] h each = refl
 none_of test other (x ∷ xs) h each =
     neither (other x) (list_any other xs) (each x (and_left (test x) (list_all test xs) h)) (none_of test other xs (and_right (test x) (list_all test xs) h) each)
 
-none_longer : {A : Type 0} (p q : A → Bool) (xs : List A) → list_any p xs ≡ false → ((x : A) → p x ≡ false → q x ≡ false) → list_any q xs ≡ false
+pub none_longer : {A : Type 0} (p q : A → Bool) (xs : List A) → list_any p xs ≡ false → ((x : A) → p x ≡ false → q x ≡ false) → list_any q xs ≡ false
 none_longer p q [] h each = refl
 none_longer p q (x ∷ xs) h each = neither (q x) (list_any q xs) (each x (or_left (p x) (list_any p xs) h)) (none_longer p q xs (or_right (p x) (list_any p xs) h) each)
 
@@ -51,7 +51,7 @@ longer : (next : ℕ → List ℕ) (k i : ℕ) → has_path next k i ≡ false �
 longer next zero i h = absurd (let c : ⊥ = cc in c)
 longer next (suc k) i h = none_longer (has_path next k) (has_path next (suc k)) (next i) h (λ j. longer next k j)
 
-longer_by : (next : ℕ → List ℕ) (more k i : ℕ) → has_path next k i ≡ false → has_path next (more + k) i ≡ false
+pub longer_by : (next : ℕ → List ℕ) (more k i : ℕ) → has_path next k i ≡ false → has_path next (more + k) i ≡ false
 longer_by next zero k i h = let e : k ≡ 0 + k = omega arith in subst (λ m. has_path next m i ≡ false) e h
 longer_by next (suc more) k i h = let e : suc (more + k) ≡ suc more + k = omega arith in subst (λ m. has_path next m i ≡ false) e (longer next (more + k) i (longer_by next more k i h))
 
@@ -90,7 +90,7 @@ some_at : (p : ℕ → Bool) (n i : ℕ) → i < suc n → p i ≡ true → (i <
 some_at p n i l h below (inl same) = or_true_left (p n) (list_any p (places n)) (subst (λ m. p m ≡ true) same h)
 some_at p n i l h below (inr apart) = or_true_right (p n) (list_any p (places n)) (below (omega arith))
 
-some_below : (p : ℕ → Bool) (n i : ℕ) → i < n → p i ≡ true → list_any p (places n) ≡ true
+pub some_below : (p : ℕ → Bool) (n i : ℕ) → i < n → p i ≡ true → list_any p (places n) ≡ true
 some_below p zero i l h = absurd (omega arith)
 some_below p (suc n) i l h = some_at p n i l h (λ m. some_below p n i m h) (cases_eq i n)
 

@@ -56,7 +56,8 @@ fn field_named<'a>(scope: &Scope<'a>, name: &FieldName) -> Option<&'a TypeField>
     field_by_names(scope, name.header.as_str(), name.field.as_str())
 }
 
-fn is_validity(name: &FieldName) -> bool
+/// Whether a name stands for whether its header is valid.
+pub fn is_validity(name: &FieldName) -> bool
     ensures { result ≡ is_validity name.now }
 {
     name.field.as_str() == "$valid$"
@@ -101,7 +102,7 @@ pub(crate) fn is_target(scope: &Scope, name: &RawField) -> bool
 }
 
 /// The bits of a width; one that is left out counts as 0.
-pub(crate) fn bits_of(width: &RawWidth) -> u32
+pub fn bits_of(width: &RawWidth) -> u32
     ensures { result ≡ bits_of width.now }
 {
     match width {

@@ -3,11 +3,11 @@
 
 mod agreement;
 mod edges;
-mod fields;
+pub mod fields;
 mod graphs;
 mod keys;
 mod kinds;
-mod names;
+pub mod names;
 mod nexts;
 mod operations;
 mod references;

@@ -8,14 +8,15 @@ ghost use Rattle.bm_rules.specs.Names.{named, place_of, lack, repeats, names_rep
 
 use bm_records::raw::{
     ActionProfile, Calculation, Checksum, Conditional, CounterArray, ErrorNumber, Header,
-    HeaderType, LearnList, ParseState, Table, TypeField,
+    HeaderType, LearnList, NextTable, ParseState, Table, TypeField,
 };
 use list_types::NoMemory;
+use p4_types::info;
 use std::alloc::{AllocError, Global};
 use std::collections::BTreeSet;
 
 /// An object that is looked up by its name.
-pub(crate) trait Labelled {
+pub trait Labelled {
     ghost label: { Self → spec.List ℕ };
 
     fn name(&self) -> &str
@@ -118,8 +119,40 @@ impl Labelled for TypeField {
     }
 }
 
+impl Labelled for NextTable {
+    ghost label = { λ x. x.outcome };
+
+    fn name(&self) -> &str {
+        self.outcome.as_str()
+    }
+}
+
+impl Labelled for info::Counter {
+    ghost label = { λ x. x.preamble.name };
+
+    fn name(&self) -> &str {
+        self.preamble.name.as_str()
+    }
+}
+
+impl Labelled for info::Digest {
+    ghost label = { λ x. x.preamble.name };
+
+    fn name(&self) -> &str {
+        self.preamble.name.as_str()
+    }
+}
+
+impl Labelled for info::Table {
+    ghost label = { λ x. x.preamble.name };
+
+    fn name(&self) -> &str {
+        self.preamble.name.as_str()
+    }
+}
+
 /// The first object of a name.
-pub(crate) fn named<'a, T: Labelled>(objects: &'a [T], name: &str) -> Option<&'a T>
+pub fn named<'a, T: Labelled>(objects: &'a [T], name: &str) -> Option<&'a T>
     ensures { option_copied result ≡ named T.label name.now objects.now }
 {
     objects.iter().find(|object| object.name() == name)
@@ -141,7 +174,7 @@ pub(crate) fn named_in_both<'a, T: Labelled>(
 }
 
 /// Its place.
-pub(crate) fn place_of<T: Labelled>(objects: &[T], name: &str) -> Option<usize>
+pub fn place_of<T: Labelled>(objects: &[T], name: &str) -> Option<usize>
     ensures place { result ≡ place_of T.label name.now objects.now }
     ensures inside { IfSome result (λ place. place < length objects.now) }
 {

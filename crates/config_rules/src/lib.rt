@@ -1,8 +1,7 @@
-//! The rules of a forwarding pipeline's configuration: those of its P4Info, and those of its program under it.
+//! What a forwarding pipeline's configuration means, or the first rule that it breaks: of its P4Info, or of its program
+//! under it.
 #![tactic(auto)]
 
-mod flaw;
-mod rule;
+mod meaning;
 
-pub use flaw::config_flaw;
-pub use rule::ConfigRule;
+pub use meaning::{config_flaw, configuration};

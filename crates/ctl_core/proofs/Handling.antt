@@ -6,7 +6,8 @@ use Rattle.p4_types.specs.declared.code.Code.{Code}
 use Rattle.plane_spec.specs.Config.{Event}
 use Rattle.plane_spec.specs.Legal.{Legal}
 use Rattle.plane_spec.specs.Planes.{Control, applied}
-use Rattle.switch_spec.specs.Answer.{Figures, answer_to}
+use Rattle.switch_spec.specs.Answer.{answer_to}
+use Rattle.switch_spec.specs.Counts.{Figures}
 use Rattle.switch_spec.specs.History.{is_unavailable}
 use Rattle.switch_spec.proofs.Answers.{answer_to_sound}
 

@@ -7,8 +7,8 @@ use Rattle.p4_types.specs.declared.events.Event.TheVariants as events
 use Rattle.p4_types.specs.declared.events.Origin.{Origin}
 use Rattle.p4_types.specs.declared.table.Change.{Change}
 use Rattle.plane_spec.specs.Config.{Event}
-use Rattle.plane_spec.specs.Planes.{Control, change_applied, applied}
-use Rattle.switch_spec.specs.Answer.{state_after, has_failed, batch, continued, all_or_nothing}
+use Rattle.plane_spec.specs.Planes.{Control, change_applied, applied, state_after}
+use Rattle.switch_spec.specs.Answer.{has_failed, batch, continued, all_or_nothing}
 use Rattle.ctl_core.specs.Prepared.{Made}
 
 -- the changes of the outcomes, in turn

@@ -1,5 +1,5 @@
 -- An answer before its events are handed on.
-use Rattle.std.specs.Prelude.{◌≡◌, List, [], ◌∷◌, None}
+use Rattle.std.specs.Prelude.{◌≡◌, List, [], ◌∷◌, None, Result, Ok, Err}
 use Rattle.plane_image.specs.Image.{ImageVersions}
 use Rattle.plane_spec.specs.Config.{Event}
 use Rattle.plane_spec.specs.Planes.{Control, applied}
@@ -28,3 +28,8 @@ pub record Leads (old new : ImageVersions) (list : List Event) : Type 0 where
 abbrev pub Made : Control → Control → List Event → Type 0
 Made before now [] = Unit {0}
 Made before now (event ∷ list) = now ≡ applied before (event ∷ list)
+
+-- what is changed in the image are the events of a call that is not refused
+abbrev pub Sets : {E : Type 0} → ImageVersions → ImageVersions → Result (List Event) E → Type 0
+Sets old new (Ok list) = Leads old new list
+Sets old new (Err refusal) = Leads old new []

@@ -1,16 +1,17 @@
 //! The answers to calls, before their events are handed on.
 ghost use Rattle.std.specs.Prelude.{◌≡◌, ◌∷◌, [], false, IfOk};
 ghost use Rattle.std.specs.Option.{option_copied};
-ghost use Rattle.switch_spec.specs.Answer.{write_refusal, write_answer, written, unreadable, plain, failed, read_reply, answer_to, is_atomic, atomicity_of, outcomes, no_figures};
+ghost use Rattle.switch_spec.specs.Answer.{write_refusal, write_answer, written, unreadable, plain, failed, read_reply, answer_to, is_atomic, atomicity_of};
+ghost use Rattle.switch_spec.specs.Counts.{no_figures};
 ghost use Rattle.switch_spec.specs.Status.{capabilities_bytes};
 ghost use Rattle.plane_spec.specs.Legal.{Legal};
-ghost use Rattle.plane_spec.specs.Planes.{primary as primary_session, is_of_primary, scope_of, applied};
+ghost use Rattle.plane_spec.specs.Planes.{primary as primary_session, is_of_primary, scope_of, applied, outcomes};
 ghost use Rattle.switch_spec.specs.History.{is_unavailable};
 ghost use Rattle.switch_spec.specs.Reading.{read_result};
 ghost use Rattle.ctl_core.specs.Prepared.{IsPrepared, Leads, Made};
 
 use crate::prepared::Prepared;
-use crate::{messages, stream, writes};
+use crate::{messages, pipelines, stream, writes};
 use list_types::{ByteList, List, NoMemory};
 use p4_types::calls::{Call, Method};
 use p4_types::code::Code;
@@ -25,7 +26,7 @@ use std::alloc::Global;
 const UPDATES: usize = 4_096;
 
 // Whether an election id is that of the role's primary, and not 0.
-fn is_of_primary(primary: Option<&Session>, id: Uint128) -> bool
+pub(crate) fn is_of_primary(primary: Option<&Session>, id: Uint128) -> bool
     ensures { result ≡ is_of_primary (option_copied primary.entry) id }
 {
     match primary {
@@ -60,7 +61,7 @@ fn write_refusal(image: &Image, primary: Option<&Session>, request: &WriteReques
 }
 
 // A call that fails for this code alone.
-fn failure(alloc: Global, code: Code) -> Result<Prepared, NoMemory>
+pub(crate) fn failure(alloc: Global, code: Code) -> Result<Prepared, NoMemory>
     ensures answer { IfOk result (λ p. IsPrepared (failed code) p) }
     ensures nothing { IfOk result (λ p. p.events ≡ []) }
 {
@@ -220,7 +221,8 @@ fn answer(
     match call {
         Call::Write(request) => write(alloc, image, lane, number, request),
         Call::Read(request) => read_reply(alloc, read(alloc, image, request)?),
-        Call::Set(_) | Call::Get(_) => failure(alloc, Code::Unimplemented),
+        Call::Set(request) => pipelines::set(alloc, image, lane, number, request),
+        Call::Get(request) => pipelines::get(alloc, image, request),
         Call::Stream(message) => stream::answer(alloc, image, lane, number, message),
         Call::Leave => stream::leave(alloc, image, lane, number),
         Call::Capabilities => capabilities(alloc),

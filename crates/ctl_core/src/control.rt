@@ -2,7 +2,8 @@
 ghost use Rattle.std.specs.Prelude.{◌≡◌, ◌<◌, ◌++◌, false, OnOk, OnErr, IfOk, replicate, slice_index, set};
 ghost use Rattle.plane_spec.specs.Legal.{Legal};
 ghost use Rattle.plane_spec.specs.Planes.{opened, applied};
-ghost use Rattle.switch_spec.specs.Answer.{answer_to, no_figures};
+ghost use Rattle.switch_spec.specs.Answer.{answer_to};
+ghost use Rattle.switch_spec.specs.Counts.{no_figures};
 ghost use Rattle.switch_spec.specs.History.{is_unavailable};
 ghost use Rattle.ctl_core.specs.Core.{Handled, IsSettled, without_memory, raised};
 ghost use Rattle.ctl_core.specs.Prepared.{answer_of};

@@ -5,6 +5,7 @@ mod calls;
 mod control;
 mod lists;
 mod messages;
+mod pipelines;
 mod prepared;
 mod press;
 mod stream;

@@ -2,11 +2,12 @@
 ghost use Rattle.std.specs.Prelude.{◌≡◌, [], ◌∷◌, map, codes, IfOk};
 ghost use Rattle.switch_spec.specs.Answer.{own_error, batch_errors};
 ghost use Rattle.ctl_core.specs.Messages.{batch_error};
+ghost use Rattle.switch_spec.specs.Pipelines.{rule_name, rule_status_bytes};
 ghost use Rattle.switch_spec.specs.Status.{status_of, status_bytes, no_error, error_of, aborted_error, detail_of, write_status, capabilities_bytes};
 
 use crate::lists::only;
 use list_types::{ByteList, List, NoMemory, Text};
-use p4_types::code::{Cause, Code};
+use p4_types::code::{Cause, Code, ConfigRule};
 use p4_types::messages::{Any, CapabilitiesResponse, Error, Status};
 use p4_types::table::Change;
 use p4v1_wire::write_message;
@@ -178,6 +179,26 @@ pub(crate) fn of_code(alloc: Global, code: Code) -> Result<List<ByteList>, NoMem
     ensures { IfOk result (λ messages. messages ≡ status_bytes code ∷ []) }
 {
     only(alloc, status_bytes(alloc, code)?)
+}
+
+fn rule_name(alloc: Global, rule: ConfigRule) -> Result<Text, NoMemory>
+    ensures { IfOk result (λ name. name ≡ rule_name rule) }
+{
+    let name = match rule {
+        ConfigRule::Info(number) => format!(in alloc; "I{number}")?,
+        ConfigRule::Program(number) => format!(in alloc; "L{number}")?,
+    };
+    Ok(Text::from_string(name))
+}
+
+/// The Status of a configuration that breaks a rule, with the rule's name.
+#[tactic(auto, unfolding(switch_spec::specs::Pipelines::rule_status_bytes))]
+pub(crate) fn of_rule(alloc: Global, rule: ConfigRule) -> Result<List<ByteList>, NoMemory>
+    ensures { IfOk result (λ messages. messages ≡ rule_status_bytes rule ∷ []) }
+{
+    let mut status = status(alloc, Code::InvalidArgument, List::new(alloc));
+    status.message = rule_name(alloc, rule)?;
+    only(alloc, write_message(alloc, &status)?)
 }
 
 #[tactic(auto, unfolding(switch_spec::specs::Status::capabilities_bytes))]

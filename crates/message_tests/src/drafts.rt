@@ -68,8 +68,8 @@ fn tell_image(told: &mut String, image: &Image) {
         return;
     };
     tell_entry(told, plane.store().best(TABLE, &[2]));
-    match plane.miss_action(TABLE) {
-        Some(call) if call.action == DROP => say(told, "0 "),
+    match plane.default_entry(TABLE) {
+        Some(default) if default.action.action == DROP => say(told, "0 "),
         Some(_) => say(told, "1 "),
         None => say(told, "no default action "),
     }

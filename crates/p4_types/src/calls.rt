@@ -29,6 +29,28 @@ pub enum Atomicity {
     DataplaneAtomic,
 }
 
+/// What a SetForwardingPipelineConfig does with a configuration (P4Runtime 1.3.0, "SetForwardingPipelineConfig RPC").
+#[derive(Clone, Copy)]
+pub enum PipelineAction {
+    /// It is looked at, and nothing changes.
+    Verify,
+    /// An empty plane of it is staged.
+    VerifyAndSave,
+    /// An empty plane of it becomes the active one.
+    VerifyAndCommit,
+    /// The staged plane becomes the active one.
+    Commit,
+}
+
+/// Which parts of a configuration a GetForwardingPipelineConfig is answered.
+#[derive(Clone, Copy)]
+pub enum ResponseType {
+    All,
+    CookieOnly,
+    P4InfoAndCookie,
+    DeviceConfigAndCookie,
+}
+
 /// A call of a controller.
 #[derive(Drop)]
 pub enum Call {

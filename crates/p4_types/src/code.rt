@@ -108,3 +108,11 @@ impl ArbitrationRule {
         }
     }
 }
+
+/// A rule of a forwarding pipeline's configuration by its number: I1 to I9 of a P4Info, L1 to L15 of a program under its
+/// P4Info.
+#[derive(Clone, Copy)]
+pub enum ConfigRule {
+    Info(u8),
+    Program(u8),
+}

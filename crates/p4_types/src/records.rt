@@ -3,11 +3,18 @@ use crate::messages::{P4Data, PacketIn};
 use crate::tape::Who;
 use list_types::{ByteList, List};
 
-/// What a packet hit: a table's entry by its sequence number, or a cell of an indirect counter.
+/// What a packet hit: a table's entry by its sequence number, with the slot of its direct counter, or a cell of an
+/// indirect counter.
 #[derive(Clone, Copy)]
 pub enum HitMark {
-    Entry { table: u32, seq: u64 },
-    Cell { slot: u32 },
+    Entry {
+        table: u32,
+        seq: u64,
+        slot: Option<u32>,
+    },
+    Cell {
+        slot: u32,
+    },
 }
 
 /// Why a packet was dropped. Its number in a report is the variant's value.

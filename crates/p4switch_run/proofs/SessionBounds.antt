@@ -7,7 +7,8 @@ use Rattle.p4_types.specs.declared.journal.Entry.{Entry}
 use Rattle.p4_types.specs.declared.records.Record.{Record}
 use Rattle.p4_types.specs.declared.tape.TapeRecord.{TapeRecord}
 use Rattle.p4_types.specs.declared.tape.TapeRecord.TheVariants.{Call, Packet, Leave}
-use Rattle.switch_spec.specs.Answer.{LaneCall, Asks, Leaves, no_figures}
+use Rattle.switch_spec.specs.Answer.{LaneCall, Asks, Leaves}
+use Rattle.switch_spec.specs.Counts.{no_figures}
 use Rattle.switch_spec.specs.Play.{Played, Turn, Answers, Refuses, Carries, call_item, item_of, begun, next_call, play}
 use Rattle.switch_spec.proofs.Answers.{answer_sound}
 use Rattle.p4switch_run.specs.Session.{State, played_of, PlaysCall, Plays, IsPlayed, IsWithin, HasRoom}

@@ -1,5 +1,5 @@
 -- A call that was handled, with its entry in the journal, is one more turn of the run.
-use Rattle.std.proofs.Common.{OnOk, Result, Ok, Err, ◌≡◌, ℕ, ◌+◌, ◌-◌, ◌^◌, ◌<◌, ◌≤◌, ◌==◌, Bool, true, false, cond, List, [], ◌∷◌, ◌++◌, length, drop, slice_index, set, refl, ap, ◌∙◌, sym, subst, inl, inr, arith, add-zero, length-set}
+use Rattle.std.proofs.Common.{OnOk, Result, Ok, Err, ◌≡◌, ℕ, ◌+◌, ◌-◌, ◌^◌, ◌<◌, ◌≤◌, ◌==◌, Bool, true, false, cond, List, [], ◌∷◌, ◌++◌, length, drop, slice_index, set, refl, ap, ◌∙◌, sym, subst, inl, inr, arith, add-zero, length-set, length-append}
 use Rattle.std.proofs.lemmas.List.{append-nil, get_or-set_same, get_or-set_other}
 use Rattle.std.proofs.Math.Seq.{drop-append_seam}
 use Rattle.std.proofs.lemmas.List.Sums.{sum_by-append, count_by-le-length, fold-append}
@@ -15,7 +15,9 @@ use Rattle.p4_types.specs.declared.tape.Who.TheVariants.{Worker}
 use Rattle.ctl_core.specs.Core.{HandledBy, IsAnswered, IsRefused, raised, replied, without_memory}
 use Rattle.plane_spec.specs.Config.{Event}
 use Rattle.plane_spec.specs.Planes.{Control, apply, applied}
-use Rattle.switch_spec.specs.Answer.{Answer, LaneCall, called, answer, answer_to, no_figures}
+use Rattle.switch_spec.specs.Answer.{Answer, LaneCall, called, answer, answer_to}
+use Rattle.slot_totals.specs.State.{TotalsState, figures}
+use Rattle.switch_spec.specs.Counts.{Figures, no_figures, figures_after}
 use Rattle.switch_spec.specs.History.{is_unavailable, step_of, steps_of, reply_of}
 use Rattle.switch_spec.specs.Meaning.{carried}
 use Rattle.switch_spec.specs.Play.{Played, Answers, Refuses, Carries, next_call, next_packet, play}
@@ -23,12 +25,12 @@ use Rattle.switch_spec.proofs.Answers.{answer_to_sound}
 use Rattle.p4switch_run.specs.Session.{State, played_of, IsSession, IsHandled, IsEntered, entry_of, PlaysCall, HasRoom}
 
 -- a run by its parts
-abbrev pub run_of : Control → ℕ → List Entry → List Record → Played
-run_of c n journal records = record { control = c; steps = n; journal = journal; records = records }
+abbrev pub run_of : Control → ℕ → List Entry → List Record → Figures → Played
+run_of c n journal records figures = record { control = c; steps = n; journal = journal; records = records; figures = figures }
 
-same_run : (c d : Control) (n m : ℕ) (j k : List Entry) (r q : List Record) → c ≡ d → n ≡ m → j ≡ k → r ≡ q → run_of c n j r ≡ run_of d m k q
-same_run c d n m j k r q e f g h =
-    ap (λ x. run_of x n j r) e ∙ ap (λ x. run_of d x j r) f ∙ ap (λ x. run_of d m x r) g ∙ ap (λ x. run_of d m k x) h
+same_run : (c d : Control) (n m : ℕ) (j k : List Entry) (r q : List Record) (s t : Figures) → c ≡ d → n ≡ m → j ≡ k → r ≡ q → s ≡ t → run_of c n j r s ≡ run_of d m k q t
+same_run c d n m j k r q s t e f g h i =
+    ap (λ x. run_of x n j r s) e ∙ ap (λ x. run_of d x j r s) f ∙ ap (λ x. run_of d m x r s) g ∙ ap (λ x. run_of d m k x s) h ∙ ap (λ x. run_of d m k q x) i
 
 same_entry : (lane k l : ℕ) (s t : List Step) (a b : Reply) → k ≡ l → s ≡ t → a ≡ b → entry_of lane k s a ≡ entry_of lane l t b
 same_entry lane k l s t a b e f g = ap (λ x. entry_of lane x s a) e ∙ ap (λ x. entry_of lane l x a) f ∙ ap (λ x. entry_of lane l t x) g
@@ -76,13 +78,13 @@ answered_plays lane call reply old new k steps session room below h k_is steps_a
     raised_is old.core.steps (length (f next).events) (omega (arith, room.steps, all, sound.few_steps)) ∙ ap (λ n. old.core.steps + n) (sym all) in
     let reply_is : reply ≡ reply_of old.core.steps (f next) =
     a.reply_is ∙ ap (λ x. replied old.core.steps x) is ∙ ap (with_steps (replied old.core.steps (f next))) sum in
-    same_run _ _ _ _ _ _ _ _
+    same_run _ _ _ _ _ _ _ _ _ _
     (a.control ∙ ap (λ x. applied old.core.control x.events) is)
     (h.steps ∙ ap (λ r. r.steps) reply_is)
     (ap (λ j. j ++ entry_of lane k steps reply ∷ []) h.journal
     ∙ ap (λ e. old.journal ++ e ∷ []) (same_entry lane k next steps (steps_of (f next).events) reply (reply_of old.core.steps (f next)) k_is
     (steps_are ∙ new_steps old.events new.events _ (a.handed ∙ ap (λ x. old.events ++ x.events) is)) reply_is))
-    h.records
+    h.records (ap figures h.totals)
 
 refused_plays : (lane : ℕ) (call : LaneCall) (reply : Reply) (old new : State) (k : ℕ) (steps : List Step)
     → IsHandled lane (called call) reply old new → k ≡ next_call lane (played_of old) → steps ≡ filter_map step_of (drop (length old.events) new.events)
@@ -90,13 +92,13 @@ refused_plays : (lane : ℕ) (call : LaneCall) (reply : Reply) (old new : State)
     → played_of (with_entry new (entry_of lane k steps reply)) ≡ play (played_of old) (Refuses lane call)
 unfolding play
 refused_plays lane call reply old new k steps h k_is steps_are r =
-    same_run _ _ _ _ _ _ _ _
+    same_run _ _ _ _ _ _ _ _ _ _
     r.control
     (h.steps ∙ ap (λ x. x.steps) r.reply_is)
     (ap (λ j. j ++ entry_of lane k steps reply ∷ []) h.journal
     ∙ ap (λ e. old.journal ++ e ∷ []) (same_entry lane k (next_call lane (played_of old)) steps [] reply (without_memory old.core.steps) k_is
     (steps_are ∙ new_steps old.events new.events [] (r.handed ∙ sym (append-nil old.events))) r.reply_is))
-    h.records
+    h.records (ap figures h.totals)
 
 plays_by : (b : Bool) (lane : ℕ) (call : LaneCall) (reply : Reply) (old new : State) (k : ℕ) (steps : List Step) → IsSession old → HasRoom old → lane < 32
     → IsHandled lane (called call) reply old new → k ≡ next_call lane (played_of old) → steps ≡ filter_map step_of (drop (length old.events) new.events)
@@ -156,6 +158,7 @@ call_session lane call reply old new entry session room below h of_lane = record
       ∙ ap (λ l. count_by (λ e. e.lane == place) old.journal + cond (l == place) 1 0) (sym of_lane)
       ∙ sym (count_push (λ e. e.lane == place) old.journal entry)
       ∙ ap (λ j. count_by (λ e. e.lane == place) (j ++ entry ∷ [])) (sym h.journal);
+  each_counted = ap (λ (t : TotalsState). t.packets) h.totals ∙ session.each_counted ∙ ap length (sym h.records);
 }
 
 -- a call that was handled, with its entry, is one more turn of a run that goes on
@@ -181,14 +184,28 @@ pub turn_session : {X E : Type 0} (r : Result X E) (lane : ℕ) (call : LaneCall
 turn_session (Ok x) lane call reply old mid new before session room below h before_is entered = (call_turn lane call reply old mid new before session room below h before_is entered).1
 turn_session (Err e) lane call reply old mid new before session room below h before_is entered = tt
 
-abbrev pub with_records : State → List Record → State
-with_records s records = record s { records = records }
+abbrev pub with_records : State → List Record → TotalsState → State
+with_records s records totals = record s { records = records; totals = totals }
 
--- the run with a packet's record is one turn more
-pub packet_turn : (lane port : ℕ) (packet : List ℕ) (s t : State) (outcome : Record) (records : List Record) → t ≡ s
+-- the run with a packet's record, which was counted, is one turn more
+pub packet_turn : (lane port : ℕ) (packet : List ℕ) (s t : State) (outcome : Record) (records : List Record) (totals : TotalsState) → t ≡ s
     → outcome ≡ carried (Worker lane) (next_packet lane (played_of s)) s.core.steps s.core.control port packet → records ≡ t.records ++ outcome ∷ []
-    → played_of (with_records t records) ≡ play (played_of s) (Carries lane port packet)
+    → figures totals ≡ figures_after (figures t.totals) outcome.hits (length packet)
+    → played_of (with_records t records totals) ≡ play (played_of s) (Carries lane port packet)
 unfolding play
-packet_turn lane port packet s t outcome records same outcome_is records_are =
-    ap (λ x. played_of (with_records x records)) same
-    ∙ ap (λ r. played_of (with_records s r)) (records_are ∙ ap (λ x. x.records ++ outcome ∷ []) same ∙ ap (λ o. s.records ++ o ∷ []) outcome_is)
+packet_turn lane port packet s t outcome records totals same outcome_is records_are figures_are =
+    ap (λ x. played_of (with_records x records totals)) same
+    ∙ ap (λ r. played_of (with_records s r totals)) (records_are ∙ ap (λ x. x.records ++ outcome ∷ []) same ∙ ap (λ o. s.records ++ o ∷ []) outcome_is)
+    ∙ ap (λ g. run_of s.core.control s.core.steps s.journal (s.records ++ carried (Worker lane) (next_packet lane (played_of s)) s.core.steps s.core.control port packet ∷ []) g)
+    (figures_are ∙ ap (λ x. figures_after (figures x.totals) outcome.hits (length packet)) same ∙ ap (λ o. figures_after (figures s.totals) o.hits (length packet)) outcome_is)
+
+-- the state with one record more, which was counted, is that of a session again
+pub packet_session : (s t : State) (outcome : Record) (records : List Record) (totals : TotalsState) → t ≡ s → IsSession s → records ≡ t.records ++ outcome ∷ [] → totals.packets ≡ t.totals.packets + 1
+    → IsSession (with_records t records totals)
+packet_session s t outcome records totals same session records_are counted_is =
+    let own : IsSession t = subst IsSession (sym same) session in record {
+      agrees = own.agrees;
+      wide = own.wide;
+      counted = own.counted;
+      each_counted = omega (arith, counted_is, own.each_counted, ap length records_are, length-append t.records (outcome ∷ []));
+    }

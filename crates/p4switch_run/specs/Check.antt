@@ -1,8 +1,8 @@
 -- What each answer of the check of a configuration says of what was read and written.
 use Rattle.std.specs.Prelude.{◌≡◌, ℕ, ◌<◌, ◌≤◌, List, ◌++◌, length, Option, None, Some, ⊤, codes}
 use Rattle.std.specs.Fmt.{decimal}
-use Rattle.config_rules.specs.declared.rule.ConfigRule.{ConfigRule}
-use Rattle.config_rules.specs.declared.rule.ConfigRule.TheVariants as flaws
+use Rattle.p4_types.specs.declared.code.ConfigRule.{ConfigRule}
+use Rattle.p4_types.specs.declared.code.ConfigRule.TheVariants as flaws
 use Rattle.config_rules.specs.Flaw.{config_flaw}
 use Rattle.sw_edge.specs.Counts.{Rose}
 use Rattle.sw_edge.specs.Told.{Consumes, IsAtEnd, Appends, AppendsPrefix}

@@ -12,12 +12,14 @@ use Rattle.p4_types.specs.declared.tape.TapeRecord.TheVariants.{Call, Packet, Le
 use Rattle.ctl_core.specs.Core.{Core, Handled, raised}
 use Rattle.plane_spec.specs.Config.{Event}
 use Rattle.plane_spec.specs.Planes.{opened, applied}
-use Rattle.switch_spec.specs.Answer.{LaneCall, Asks, Leaves, answer_to, no_figures}
+use Rattle.switch_spec.specs.Answer.{LaneCall, Asks, Leaves, answer_to}
+use Rattle.slot_totals.specs.State.{TotalsState, figures}
+use Rattle.switch_spec.specs.Counts.{no_figures}
 use Rattle.switch_spec.specs.History.{step_of}
 use Rattle.switch_spec.specs.Play.{Played, Turn, Answers, Refuses, Carries, items_of, play, played}
 use Rattle.p4switch_run.specs.Tallies.{Tallies}
 
--- what the program keeps of a run: its control and counts, its events, the journal, and the records of packets
+-- what the program keeps of a run: its control and counts, its events, the journal, the records of packets, and what counters have counted
 pub record State : Type 0 where
   pub core : Core
   -- with what it started, and the events since then
@@ -25,16 +27,19 @@ pub record State : Type 0 where
   pub events : List Event
   pub journal : List Entry
   pub records : List Record
+  -- what the counters have counted
+  pub totals : TotalsState
 
 -- the run so far that is kept
 abbrev pub played_of : State → Played
-played_of s = record { control = s.core.control; steps = s.core.steps; journal = s.journal; records = s.records }
+played_of s = record { control = s.core.control; steps = s.core.steps; journal = s.journal; records = s.records; figures = figures s.totals }
 
 -- the control state is that behind the events, and each caller's calls are those of the journal
 pub record IsSession (s : State) : Type 0 where
   pub agrees : applied (opened s.start) s.events ≡ s.core.control
   pub wide : length s.core.calls ≡ 32
   pub counted : Tallies (λ lane entry. entry.lane == lane) 32 s.core.calls s.journal
+  pub each_counted : s.totals.packets ≡ length s.records
 
 -- a call of a lane was handled, with this reply; it is not in the journal yet
 pub record IsHandled (lane : ℕ) (call : calls.Call) (reply : Reply) (old new : State) : Type 0 where
@@ -44,6 +49,7 @@ pub record IsHandled (lane : ℕ) (call : calls.Call) (reply : Reply) (old new :
   pub agrees : applied (opened new.start) new.events ≡ new.core.control
   pub journal : new.journal ≡ old.journal
   pub records : new.records ≡ old.records
+  pub totals : new.totals ≡ old.totals
 
 -- a lane's call is answered, or there is no memory for it
 abbrev pub PlaysCall : Played → ℕ → LaneCall → Played → Type 0

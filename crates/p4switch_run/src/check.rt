@@ -4,7 +4,8 @@ ghost use Rattle.p4switch_run.specs.Check.{Checks, HasFlaw, Unread, verdict_line
 ghost use Rattle.p4switch_run.specs.Replay.{streams};
 
 use crate::status::Status;
-use config_rules::{ConfigRule, config_flaw};
+use config_rules::config_flaw;
+use p4_types::code::ConfigRule;
 use std::alloc::{AllocError, Global};
 use sw_edge::{Sent, Sink, Source};
 use tape_form::{Ended, take_bytes};

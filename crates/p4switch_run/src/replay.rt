@@ -17,7 +17,7 @@ fn text_of(alloc: Global, start: Start, items: &[TapeRecord]) -> Result<ByteList
     requires number { length items.now ≤ 1000000 }
     ensures { IfOk result (IsTextOf start items.now) }
 {
-    let report = play_all(alloc, start, items)?.finish(alloc);
+    let report = play_all(alloc, start, items)?.finish(alloc)?;
     tape_form::report_text(alloc, &report)
 }
 

@@ -1,8 +1,8 @@
 //! A run in lockstep: calls are answered and packets carried, one after another.
 ghost use Rattle.std.specs.Prelude.{◌≡◌, ◌<◌, ◌≤◌, ◌+◌, ◌++◌, [], ◌∷◌, length, map, All, OnOk, IfOk};
 ghost use Rattle.p4v1_read.specs.Calls.{call_of};
-ghost use Rattle.switch_spec.specs.Meaning.{carried, receiver, to_lane};
-ghost use Rattle.switch_spec.specs.Play.{begun, next_packet, played_report};
+ghost use Rattle.switch_spec.specs.Meaning.{carried, record_of, receiver, to_lane};
+ghost use Rattle.switch_spec.specs.Play.{begun, played_report};
 ghost use Rattle.switch_spec.specs.Tape.{IsRecord};
 ghost use Rattle.p4switch_run.specs.Session.{played_of, IsSession, IsHandled, IsEntered, PlaysCall, Plays, IsPlayed, HasRoom};
 ghost use Rattle.switch_spec.specs.Answer.{Asks, Leaves};
@@ -18,7 +18,9 @@ use p4_types::messages::PacketIn;
 use p4_types::records::{CpuMessage, Record};
 use p4_types::tape::{TapeRecord, Who};
 use p4v1_read::read_call;
+use pkt_worker::{Scratch, Verdict};
 use plane_image::Image;
+use slot_totals::Totals;
 use std::alloc::Global;
 use std::marker::Model;
 
@@ -29,6 +31,9 @@ pub struct Session {
     published: Published,
     journal: List<Entry>,
     packets: Packets,
+    totals: Totals,
+    scratch: Scratch,
+    verdict: Verdict,
 }
 
 impl Model for Session {
@@ -40,7 +45,7 @@ impl Model for Session {
 
     ghost Value = { State };
 
-    ghost view = { λ s. record { core = s.control; start = s.published.start; events = s.published.events.items; journal = s.journal; records = s.packets } };
+    ghost view = { λ s. record { core = s.control; start = s.published.start; events = s.published.events.items; journal = s.journal; records = s.packets; totals = s.totals } };
 }
 
 // Packets for a controller, which go to this lane or to none.
@@ -72,6 +77,48 @@ fn to_controller(
     addressed(alloc, image.roles().primary(0), packets)
 }
 
+// The record of what became of a lane's packet after the steps of an image.
+fn recorded(
+    alloc: Global,
+    image: &Image,
+    who: Who,
+    index: u32,
+    verdict: &Verdict,
+) -> Result<Record, NoMemory>
+    ensures record { IfOk result (λ r. r ≡ record_of who index image.now.steps (receiver image.now.now) verdict.now) }
+    ensures few { IfOk result (λ r. length r.hits ≤ 16640) }
+{
+    Ok(Record {
+        who,
+        index,
+        steps: image.steps(),
+        fate: verdict.fate(),
+        outputs: verdict.outputs(alloc)?,
+        cpu: to_controller(alloc, image, verdict.packet_ins(alloc)?)?,
+        digest: verdict.sample(alloc)?,
+        hits: verdict.hit_list(alloc)?,
+    })
+}
+
+// Carries a lane's packet through the active plane of an image.
+#[allow(clippy::too_many_arguments)]
+fn carry(
+    alloc: Global,
+    image: &Image,
+    who: Who,
+    index: u32,
+    port: u16,
+    packet: &[u8],
+    scratch: &mut Scratch,
+    verdict: &mut Verdict,
+) -> Result<Record, NoMemory>
+    ensures record { IfOk result (λ r. r ≡ carried who index image.now.steps image.now.now port packet.now) }
+    ensures few { IfOk result (λ r. length r.hits ≤ 16640) }
+{
+    pkt_worker::run(image.active(), image.cpu(), port, packet, scratch, verdict);
+    recorded(alloc, image, who, index, verdict)
+}
+
 impl Session {
     pub fn open(alloc: Global, start: Start) -> Result<Session, NoMemory>
         ensures played { IfOk result (λ s. played_of s ≡ begun start) }
@@ -82,6 +129,9 @@ impl Session {
             published: Published::open(alloc, start),
             journal: List::new(alloc),
             packets: Packets::open(alloc),
+            totals: Totals::open(alloc),
+            scratch: Scratch::open(alloc)?,
+            verdict: Verdict::open(alloc)?,
         })
     }
 
@@ -174,32 +224,6 @@ impl Session {
         self.enter(alloc, lane, before, reply)
     }
 
-    // The record of a worker's next packet.
-    fn outcome(
-        &self,
-        alloc: Global,
-        lane: u16,
-        port: u16,
-        packet: &[u8],
-    ) -> Result<Record, NoMemory>
-        requires lane { lane < 16 }
-        requires room { HasRoom self.now }
-        ensures { IfOk result (λ r. r ≡ carried (Who.Worker lane) (next_packet lane (played_of self.now)) self.now.core.steps self.now.core.control port packet.now) }
-    {
-        let image = self.control.image();
-        let verdict = pkt_worker::run(alloc, image.active(), image.cpu(), port, packet)?;
-        Ok(Record {
-            who: Who::Worker(lane),
-            index: self.packets.count_of(lane) + 1,
-            steps: image.steps(),
-            fate: verdict.fate,
-            outputs: verdict.outputs,
-            cpu: to_controller(alloc, image, verdict.packet_ins)?,
-            digest: verdict.sample,
-            hits: verdict.hits,
-        })
-    }
-
     /// Runs a worker's next packet.
     pub fn packet(
         &mut self,
@@ -209,12 +233,24 @@ impl Session {
         packet: &[u8],
     ) -> Result<(), NoMemory>
         requires lane { lane < 16 }
+        requires size { length packet.now ≤ 9216 }
         requires room { HasRoom self.old }
         requires session { IsSession self.old }
         ensures plays { OnOk result (Plays (played_of self.old) (TapeRecord.Packet lane port packet.now) (played_of self.new)) }
         ensures session { OnOk result (IsSession self.new) }
     {
-        let outcome = self.outcome(alloc, lane, port, packet)?;
+        let index = self.packets.count_of(lane) + 1;
+        let outcome = carry(
+            alloc,
+            self.control.image(),
+            Who::Worker(lane),
+            index,
+            port,
+            packet,
+            &mut self.scratch,
+            &mut self.verdict,
+        )?;
+        self.totals.add(outcome.hits.as_slice(), packet.len())?;
         self.packets.push(lane, outcome)?;
         Ok(())
     }
@@ -240,17 +276,20 @@ impl Session {
         }
     }
 
-    /// What the report shows of the run. It takes no memory.
-    pub fn finish(self, alloc: Global) -> Report
-        ensures { result ≡ played_report (played_of self) }
+    /// What the report shows of the run.
+    pub fn finish(self, alloc: Global) -> Result<Report, NoMemory>
+        ensures { IfOk result (λ report. report ≡ played_report (played_of self)) }
     {
-        Report {
+        let plane = self.control.image().active();
+        let counts = slot_totals::count_lines(alloc, plane, &self.totals)?;
+        let cells = slot_totals::cell_lines(alloc, plane, &self.totals)?;
+        Ok(Report {
             journal: self.journal,
             sent: List::new(alloc),
             records: self.packets.into_list(),
-            counts: List::new(alloc),
-            cells: List::new(alloc),
-        }
+            counts,
+            cells,
+        })
     }
 }
 

@@ -52,7 +52,7 @@ found_there plane (Some id) key entry found = best_there plane id key entry foun
 
 entry_there : (plane : Plane) (o : Option Entry) → ((entry : Entry) → o ≡ Some entry → Contains plane.entries entry) → All (IsThere plane) (entry_hit o)
 entry_there plane None there = All-nil (IsThere plane)
-entry_there plane (Some entry) there = All-cons (IsThere plane) (marks.Entry entry.name.table entry.seq) [] (entry, there entry refl, refl, refl) (All-nil (IsThere plane))
+entry_there plane (Some entry) there = All-cons (IsThere plane) (marks.Entry entry.name.table entry.seq entry.slot) [] (entry, there entry refl, refl, refl, refl) (All-nil (IsThere plane))
 
 table_entry_there : (plane : Plane) (table : Table) (store : Contents) → All (IsThere plane) (entry_hit (found plane table store))
 unfolding found

@@ -39,9 +39,9 @@ DroppedSendsNothing = (plane : Option Plane) (cpu port : ℕ) (packet : List ℕ
 abbrev pub LeavesWithinLimit : Type 0
 LeavesWithinLimit = (plane : Option Plane) (cpu port : ℕ) (packet : List ℕ) → All (λ output. length output.bytes ≤ 10240) (meaning plane cpu port packet).outputs
 
--- what is hit is there: an entry of this table and number, or a cell of the plane
+-- what is hit is there: an entry of this table, number and slot, or a cell of the plane
 abbrev pub IsThere : Plane → HitMark → Type 0
-IsThere plane (marks.Entry table seq) = (entry : Entry) × Contains plane.entries entry × (entry.name.table ≡ table) × (entry.seq ≡ seq)
+IsThere plane (marks.Entry table seq slot) = (entry : Entry) × Contains plane.entries entry × (entry.name.table ≡ table) × (entry.seq ≡ seq) × (entry.slot ≡ slot)
 IsThere plane (marks.Cell slot) = (plane.cells ≤ slot) × (slot < plane.cells + cells_in plane.config)
 
 -- Everything that a packet hits is there.

@@ -1,5 +1,5 @@
 -- What becomes of one packet in a plane (P4-16, "Architecture description"; BMv2, "simple_switch"; P4Runtime 1.3.0, "Packet I/O", "Digests").
-use Rattle.std.specs.Prelude.{ℕ, suc, ◌/◌, ◌==◌, nat_lt, if◌then◌else◌, Bool, List, [], ◌∷◌, codes, drop, find, length, map, slice_get, sum_by, Option, Some, None}
+use Rattle.std.specs.Prelude.{ℕ, suc, ◌/◌, ◌%◌, ◌^◌, ◌==◌, nat_lt, if◌then◌else◌, Bool, List, [], ◌∷◌, codes, drop, find, length, map, slice_get, sum_by, Option, Some, None}
 use Rattle.std.specs.Str.{bytes_eq}
 use Rattle.std.specs.List.{list_any}
 use Rattle.bm_expr.specs.Store.{Contents, field_read}
@@ -109,9 +109,9 @@ abbrev pub sample_of : Plane → Contents → Option ℕ → Option Sample
 sample_of plane store None = None
 sample_of plane store (Some place) = sample_in plane store (slice_get plane.config.program.learn_lists place)
 
--- `egress_spec`: the port at which a packet is to leave
+-- `egress_spec`: the port at which a packet is to leave, a number of 9 bits
 abbrev pub egress_spec : Plane → Contents → ℕ
-egress_spec plane store = field_read store plane.config.program.standard_metadata.egress_spec
+egress_spec plane store = field_read store plane.config.program.standard_metadata.egress_spec % 2 ^ 9
 
 -- a walk from a node on, which hit this before
 abbrev pub walked : Plane → Option Node → Contents → List HitMark → Walk

@@ -43,7 +43,7 @@ no_objects = record { tables = []; actions = []; action_profiles = []; counters 
 
 -- a configuration of these objects and this program; its bytes are not looked at by packets
 abbrev pub configured : Info → Program → Config
-configured info program = record { p4info = []; device_config = []; cookie = 0; info = info; program = program; defaults = [] }
+configured info program = record { p4info = []; device_config = []; cookie = 0; info = info; program = program }
 
 -- ---- the router
 

@@ -40,7 +40,7 @@ cell_hit plane count = cell_in (slice_get plane.config.info.counters count.count
 -- what a table that found this hits
 abbrev pub entry_hit : Option Entry → List HitMark
 entry_hit None = []
-entry_hit (Some entry) = marks.Entry entry.name.table entry.seq ∷ []
+entry_hit (Some entry) = marks.Entry entry.name.table entry.seq entry.slot ∷ []
 
 -- the effects of an action, if there is one, on a store
 abbrev pub run_if : Plane → Option Action → List ℕ → Effects → Effects

@@ -54,7 +54,7 @@ RouterForwards =
     meaning (Some router_plane) cpu 1
     (2 ∷ 0 ∷ 0 ∷ 0 ∷ 0 ∷ 10 ∷ 2 ∷ 0 ∷ 0 ∷ 0 ∷ 0 ∷ 1 ∷ 8 ∷ 0 ∷ 69 ∷ 0 ∷ 0 ∷ 24 ∷ 0 ∷ 0 ∷ 64 ∷ 0 ∷ 64 ∷ 1 ∷ 36 ∷ 225 ∷ 10 ∷ 0 ∷ 0 ∷ 1 ∷ 10 ∷ 1 ∷ 2 ∷ 3 ∷ 222 ∷ 173 ∷ 190 ∷ 239 ∷ [])
     ≡ record (sent_at 3
-    (2 ∷ 0 ∷ 0 ∷ 0 ∷ 0 ∷ 3 ∷ 2 ∷ 0 ∷ 0 ∷ 0 ∷ 0 ∷ 10 ∷ 8 ∷ 0 ∷ 69 ∷ 0 ∷ 0 ∷ 24 ∷ 0 ∷ 0 ∷ 64 ∷ 0 ∷ 63 ∷ 1 ∷ 37 ∷ 225 ∷ 10 ∷ 0 ∷ 0 ∷ 1 ∷ 10 ∷ 1 ∷ 2 ∷ 3 ∷ 222 ∷ 173 ∷ 190 ∷ 239 ∷ [])) { hits = marks.Entry 0x02000002 1 ∷ [] }
+    (2 ∷ 0 ∷ 0 ∷ 0 ∷ 0 ∷ 3 ∷ 2 ∷ 0 ∷ 0 ∷ 0 ∷ 0 ∷ 10 ∷ 8 ∷ 0 ∷ 69 ∷ 0 ∷ 0 ∷ 24 ∷ 0 ∷ 0 ∷ 64 ∷ 0 ∷ 63 ∷ 1 ∷ 37 ∷ 225 ∷ 10 ∷ 0 ∷ 0 ∷ 1 ∷ 10 ∷ 1 ∷ 2 ∷ 3 ∷ 222 ∷ 173 ∷ 190 ∷ 239 ∷ [])) { hits = marks.Entry 0x02000002 1 None ∷ [] }
 
 -- a packet to 11.0.0.1 has no route, and is dropped
 abbrev pub RouterDrops : Type 0
@@ -69,7 +69,7 @@ RouterWraps =
     meaning (Some router_plane) cpu 1
     (2 ∷ 0 ∷ 0 ∷ 0 ∷ 0 ∷ 10 ∷ 2 ∷ 0 ∷ 0 ∷ 0 ∷ 0 ∷ 1 ∷ 8 ∷ 0 ∷ 69 ∷ 0 ∷ 0 ∷ 24 ∷ 0 ∷ 0 ∷ 64 ∷ 0 ∷ 0 ∷ 1 ∷ 100 ∷ 225 ∷ 10 ∷ 0 ∷ 0 ∷ 1 ∷ 10 ∷ 1 ∷ 2 ∷ 3 ∷ 222 ∷ 173 ∷ 190 ∷ 239 ∷ [])
     ≡ record (sent_at 3
-    (2 ∷ 0 ∷ 0 ∷ 0 ∷ 0 ∷ 3 ∷ 2 ∷ 0 ∷ 0 ∷ 0 ∷ 0 ∷ 10 ∷ 8 ∷ 0 ∷ 69 ∷ 0 ∷ 0 ∷ 24 ∷ 0 ∷ 0 ∷ 64 ∷ 0 ∷ 255 ∷ 1 ∷ 101 ∷ 224 ∷ 10 ∷ 0 ∷ 0 ∷ 1 ∷ 10 ∷ 1 ∷ 2 ∷ 3 ∷ 222 ∷ 173 ∷ 190 ∷ 239 ∷ [])) { hits = marks.Entry 0x02000002 1 ∷ [] }
+    (2 ∷ 0 ∷ 0 ∷ 0 ∷ 0 ∷ 3 ∷ 2 ∷ 0 ∷ 0 ∷ 0 ∷ 0 ∷ 10 ∷ 8 ∷ 0 ∷ 69 ∷ 0 ∷ 0 ∷ 24 ∷ 0 ∷ 0 ∷ 64 ∷ 0 ∷ 255 ∷ 1 ∷ 101 ∷ 224 ∷ 10 ∷ 0 ∷ 0 ∷ 1 ∷ 10 ∷ 1 ∷ 2 ∷ 3 ∷ 222 ∷ 173 ∷ 190 ∷ 239 ∷ [])) { hits = marks.Entry 0x02000002 1 None ∷ [] }
 
 -- ---- the lab
 
@@ -84,7 +84,7 @@ lab_learning = record (made_plane 0 (configured no_objects lab)) {
 abbrev pub LabLearns : Type 0
 LabLearns =
     meaning (Some lab_learning) cpu 1 (0xaa ∷ 5 ∷ 0 ∷ 0 ∷ [])
-    ≡ record (sent_at 4 (0xaa ∷ 5 ∷ 0 ∷ 0 ∷ [])) { sample = Some (record { digest = 0x17000001; content = contents.Struct ((0xaa ∷ []) ∷ (5 ∷ []) ∷ []) }); hits = marks.Entry 0x02000011 1 ∷ [] }
+    ≡ record (sent_at 4 (0xaa ∷ 5 ∷ 0 ∷ 0 ∷ [])) { sample = Some (record { digest = 0x17000001; content = contents.Struct ((0xaa ∷ []) ∷ (5 ∷ []) ∷ []) }); hits = marks.Entry 0x02000011 1 None ∷ [] }
 
 -- of 0a under 0f to port 2 and a0 under f0 to port 1 with one priority, the one that came first is taken
 abbrev pub lab_ternary : Plane
@@ -95,7 +95,7 @@ lab_ternary = record (made_plane 0 (configured no_objects lab)) {
 
 -- a packet that both hit leaves by the first
 abbrev pub LabTakesFirst : Type 0
-LabTakesFirst = meaning (Some lab_ternary) cpu 1 (0xaa ∷ 0 ∷ 0 ∷ 0 ∷ []) ≡ record (sent_at 2 (0xaa ∷ 0 ∷ 0 ∷ 0 ∷ [])) { hits = marks.Entry 0x02000011 1 ∷ [] }
+LabTakesFirst = meaning (Some lab_ternary) cpu 1 (0xaa ∷ 0 ∷ 0 ∷ 0 ∷ []) ≡ record (sent_at 2 (0xaa ∷ 0 ∷ 0 ∷ 0 ∷ [])) { hits = marks.Entry 0x02000011 1 None ∷ [] }
 
 -- a group of two members with weights 1 and 3
 abbrev pub lab_group : Plane
@@ -107,11 +107,11 @@ lab_group = record (made_plane 0 (configured (record no_objects { tables = ecmp_
 
 -- a packet whose hash has the remainder 0 by 4 leaves by the first member
 abbrev pub GroupChoosesFirst : Type 0
-GroupChoosesFirst = meaning (Some lab_group) cpu 1 (0xaa ∷ 5 ∷ 0 ∷ 3 ∷ []) ≡ record (sent_at 1 (0xaa ∷ 5 ∷ 0 ∷ 3 ∷ [])) { hits = marks.Entry 0x02000012 1 ∷ [] }
+GroupChoosesFirst = meaning (Some lab_group) cpu 1 (0xaa ∷ 5 ∷ 0 ∷ 3 ∷ []) ≡ record (sent_at 1 (0xaa ∷ 5 ∷ 0 ∷ 3 ∷ [])) { hits = marks.Entry 0x02000012 1 None ∷ [] }
 
 -- one with the remainder 1 leaves by the second
 abbrev pub GroupChoosesSecond : Type 0
-GroupChoosesSecond = meaning (Some lab_group) cpu 1 (0xaa ∷ 5 ∷ 0 ∷ 0 ∷ []) ≡ record (sent_at 2 (0xaa ∷ 5 ∷ 0 ∷ 0 ∷ [])) { hits = marks.Entry 0x02000012 1 ∷ [] }
+GroupChoosesSecond = meaning (Some lab_group) cpu 1 (0xaa ∷ 5 ∷ 0 ∷ 0 ∷ []) ≡ record (sent_at 2 (0xaa ∷ 5 ∷ 0 ∷ 0 ∷ [])) { hits = marks.Entry 0x02000012 1 None ∷ [] }
 
 -- ---- the bridge
 
@@ -123,7 +123,7 @@ bridge_plane config address port = record (made_plane 0 config) { entries = entr
 abbrev pub ShortFrameLeaves : Type 0
 ShortFrameLeaves =
     meaning (Some (bridge_plane bridge_config 0 2)) cpu 1 (0 ∷ 0 ∷ 0 ∷ 0 ∷ 0 ∷ 2 ∷ 0 ∷ 0 ∷ 0 ∷ 0 ∷ 0 ∷ 1 ∷ 8 ∷ [])
-    ≡ record (sent_at 2 (0 ∷ 0 ∷ 0 ∷ 0 ∷ 0 ∷ 2 ∷ 0 ∷ 0 ∷ 0 ∷ 0 ∷ 0 ∷ 1 ∷ 8 ∷ [])) { hits = marks.Entry bridge_table 1 ∷ [] }
+    ≡ record (sent_at 2 (0 ∷ 0 ∷ 0 ∷ 0 ∷ 0 ∷ 2 ∷ 0 ∷ 0 ∷ 0 ∷ 0 ∷ 0 ∷ 1 ∷ 8 ∷ [])) { hits = marks.Entry bridge_table 1 None ∷ [] }
 
 -- a header of two fields that stands before what goes to a controller
 abbrev pub notify : ControllerHeader
@@ -140,12 +140,12 @@ ControllerIsTold =
     ≡ record (sent_at 0 []) {
       outputs = [];
       packet_ins = (record { payload = 7 ∷ []; metadata = (record { metadata_id = 1; value = 1 ∷ 2 ∷ [] }) ∷ (record { metadata_id = 2; value = 3 ∷ [] }) ∷ [] }) ∷ [];
-      hits = marks.Entry bridge_table 1 ∷ [];
+      hits = marks.Entry bridge_table 1 None ∷ [];
     }
 
 -- one byte is too short for it
 abbrev pub ControllerHeaderTooShort : Type 0
-ControllerHeaderTooShort = meaning (Some (bridge_plane notifying 0 255)) cpu 1 (9 ∷ []) ≡ dropped reasons.TooShortForController None (marks.Entry bridge_table 1 ∷ [])
+ControllerHeaderTooShort = meaning (Some (bridge_plane notifying 0 255)) cpu 1 (9 ∷ []) ≡ dropped reasons.TooShortForController None (marks.Entry bridge_table 1 None ∷ [])
 
 -- ---- long packets
 
@@ -172,4 +172,4 @@ LongestLeaves = sizes (meaning (Some (wide_plane (widening 65 8200 (8 ∷ replic
 
 -- one byte more is too long
 abbrev pub TooLongIsDropped : Type 0
-TooLongIsDropped = meaning (Some (wide_plane (widening 65 8200 (8 ∷ replicate 64 128)))) cpu 1 (replicate 9216 0) ≡ dropped reasons.TooLong None (marks.Entry bridge_table 1 ∷ [])
+TooLongIsDropped = meaning (Some (wide_plane (widening 65 8200 (8 ∷ replicate 64 128)))) cpu 1 (replicate 9216 0) ≡ dropped reasons.TooLong None (marks.Entry bridge_table 1 None ∷ [])

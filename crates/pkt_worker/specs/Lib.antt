@@ -1,1 +1,4 @@
+pub mod Hits
+pub mod Headers
+pub mod Slots
 pub mod Verdicts

@@ -1,9 +1,12 @@
 //! What becomes of a packet in a plane.
 #![tactic(auto)]
 
-mod bridge;
+mod ending;
 mod lists;
+mod metadata;
+mod running;
 mod verdict;
+mod walk;
 
-pub use bridge::run;
+pub use running::{Scratch, run};
 pub use verdict::Verdict;

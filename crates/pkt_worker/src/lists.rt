@@ -1,13 +1,11 @@
-//! Lists of one item.
-ghost use Rattle.std.specs.Prelude.{◌≡◌, ◌∷◌, [], IfOk};
+//! Vectors that have room.
+ghost use Rattle.std.specs.Prelude.{◌≡◌, ◌<◌, ◌≤◌, ◌++◌, [], ◌∷◌, length, vec_capacity};
 
-use list_types::{List, NoMemory};
-use std::alloc::Global;
-
-pub(crate) fn only<T: Drop>(alloc: Global, item: T) -> Result<List<T>, NoMemory>
-    ensures { IfOk result (λ list. list ≡ item ∷ []) }
+/// Adds an item, for which there is room. It takes no memory.
+pub(crate) fn add<T: Copy>(items: &mut Vec<T>, item: T)
+    requires room { length items.old.items < vec_capacity items.old }
+    ensures items { items.new.items ≡ items.old.items ++ item ∷ [] }
+    ensures room { vec_capacity items.old ≤ vec_capacity items.new }
 {
-    let mut list = List::new(alloc);
-    list.push(item)?;
-    Ok(list)
+    let _ = items.push(item);
 }

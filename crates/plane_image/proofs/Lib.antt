@@ -1,5 +1,6 @@
 pub mod Changing
 pub mod Following
 pub mod Numbering
+pub mod AtFirst
 pub mod Outcomes
 pub mod Scoping

@@ -16,7 +16,7 @@ use Rattle.plane_spec.specs.Planes.{Plane, room_of, insert_cause_in, change_caus
 use Rattle.plane_state.specs.declared.plane.Drawn.{Drawn}
 use Rattle.role_arbiter.specs.State.{RolesState}
 use Rattle.plane_state.specs.Versions.{insert_after, plane_after, drawn_by_insert, drawn_by}
-use Rattle.plane_image.specs.Image.{BelowIn, IsNumbered, control_of, after_in, drawn_in}
+use Rattle.plane_image.specs.Image.{BelowIn, CellsBelowIn, IsNumbered, control_of, after_in, drawn_in}
 
 -- an entry's number is below
 abbrev pub Below : ℕ → Entry → Type 0
@@ -124,6 +124,29 @@ pub below_in_after : (o : Option Plane) (change : Change) (room : Room) (next : 
 below_in_after None change room next own h = tt
 below_in_after (Some plane) change room next own h = below_after change room plane next own h
 
+-- ---- the cells of a plane have drawn their slots
+
+cells_more : (next more : ℕ) (plane : Plane) → CellsBelowIn next (Some plane) → CellsBelowIn (next + more) (Some plane)
+cells_more next more plane h = omega (arith, h)
+
+pub cells_in_more : (next more : ℕ) (o : Option Plane) → CellsBelowIn next o → CellsBelowIn (next + more) o
+cells_in_more next more None h = tt
+cells_in_more next more (Some plane) h = cells_more next more plane h
+
+cells_insert : (o : Option Table) (room : Room) (plane : Plane) (change : EntryChange) (next : ℕ) → CellsBelowIn next (Some plane) → CellsBelowIn next (Some (insert_after o room plane change))
+cells_insert None room plane change next h = h
+cells_insert (Some table) room plane change next h = h
+
+cells_after : (change : Change) (room : Room) (plane : Plane) (next : ℕ) → CellsBelowIn next (Some plane) → CellsBelowIn next (Some (plane_after room plane change))
+cells_after (changes.InsertEntry change) room plane next h = cells_insert (table_of change.name.table plane.config.info) room plane change next h
+cells_after (changes.ModifyEntry change) room plane next h = h
+cells_after (changes.DeleteEntry name) room plane next h = h
+cells_after (changes.ModifyDefault table action) room plane next h = h
+
+pub cells_in_after : (o : Option Plane) (change : Change) (room : Room) (next : ℕ) → CellsBelowIn next o → CellsBelowIn (next + (drawn_in o change).slots) (after_in o room change)
+cells_in_after None change room next h = tt
+cells_in_after (Some plane) change room next h = cells_in_more next (drawn_by plane change).slots (Some (plane_after room plane change)) (cells_after change room plane next h)
+
 -- ---- the control state after a change of a plane
 
 own_number : (room : Room) (next : ℕ) → next ≤ 2 ^ 64 - 1 → room.numbers ≡ 2 ^ 64 - 1 - next → next_number room < next + 1
@@ -138,7 +161,14 @@ staged_numbered device cpu rows roles active staged next slot closed change room
     let below = below_in_after staged change room next (own_number room next h.numbers (ap (λ (r : Room). r.numbers) room_is)) h.staged in
     let F : Option Plane → Drawn → Type 0 = λ o d. IsNumbered (control_of device cpu rows roles active o (next + d.numbers) (slot + d.slots) closed) in
     subst (λ (o : Option Plane). F o drawn) (sym after_is) (subst (λ (d : Drawn). F (after_in staged room change) d) (sym drawn_is)
-    (record { active = below_in_more next (drawn_in staged change).numbers active h.active; staged = below; numbers = left.numbers; slots = left.slots }))
+    (record {
+      active = below_in_more next (drawn_in staged change).numbers active h.active;
+      staged = below;
+      active_cells = cells_in_more slot (drawn_in staged change).slots active h.active_cells;
+      staged_cells = cells_in_after staged change room slot h.staged_cells;
+      numbers = left.numbers;
+      slots = left.slots;
+    }))
 
 pub active_numbered : (device cpu rows : ℕ) (roles : RolesState) (active staged : Option Plane) (next slot : ℕ) (closed : Bool) (change : Change) (room : Room) (after : Option Plane) (drawn : Drawn)
     → IsNumbered (control_of device cpu rows roles active staged next slot closed) → room ≡ room_of (control_of device cpu rows roles active staged next slot closed)
@@ -149,11 +179,11 @@ active_numbered device cpu rows roles active staged next slot closed change room
     let below = below_in_after active change room next (own_number room next h.numbers (ap (λ (r : Room). r.numbers) room_is)) h.active in
     let F : Option Plane → Drawn → Type 0 = λ o d. IsNumbered (control_of device cpu rows roles o staged (next + d.numbers) (slot + d.slots) closed) in
     subst (λ (o : Option Plane). F o drawn) (sym after_is) (subst (λ (d : Drawn). F (after_in active room change) d) (sym drawn_is)
-    (record { active = below; staged = below_in_more next (drawn_in active change).numbers staged h.staged; numbers = left.numbers; slots = left.slots }))
-
--- with other planes that are the same
-pub same_numbered : (device cpu rows : ℕ) (roles : RolesState) (active staged active_now staged_now : Option Plane) (next slot : ℕ) (closed : Bool)
-    → active_now ≡ active → staged_now ≡ staged → IsNumbered (control_of device cpu rows roles active staged next slot closed) → IsNumbered (control_of device cpu rows roles active_now staged_now next slot closed)
-same_numbered device cpu rows roles active staged active_now staged_now next slot closed a s h =
-    subst (λ (o : Option Plane). IsNumbered (control_of device cpu rows roles active_now o next slot closed)) (sym s)
-    (subst (λ (o : Option Plane). IsNumbered (control_of device cpu rows roles o staged next slot closed)) (sym a) h)
+    (record {
+      active = below;
+      staged = below_in_more next (drawn_in active change).numbers staged h.staged;
+      active_cells = cells_in_after active change room slot h.active_cells;
+      staged_cells = cells_in_more slot (drawn_in active change).slots staged h.staged_cells;
+      numbers = left.numbers;
+      slots = left.slots;
+    }))

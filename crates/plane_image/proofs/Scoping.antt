@@ -2,10 +2,9 @@
 use Rattle.std.proofs.Common.{◌≡◌, ℕ, List, Option, Result, Ok, Err, refl, ap, ◌∙◌, sym}
 use Rattle.p4_types.specs.declared.code.Cause.{Cause}
 use Rattle.p4_types.specs.declared.table.Change.{Change}
-use Rattle.plane_spec.specs.Planes.{Control, scope_in, scope_of}
+use Rattle.plane_spec.specs.Planes.{Control, scope_in, scope_of, state_after}
 use Rattle.plane_spec.proofs.Steady.{change_steady}
 use Rattle.role_arbiter.specs.State.{RolesState, primary_of}
-use Rattle.switch_spec.specs.Answer.{state_after}
 
 roles_kept : (o : Result Change Cause) (c : Control) → (state_after c o).roles ≡ c.roles
 roles_kept (Ok change) c = (change_steady change c).roles

@@ -1,5 +1,5 @@
 -- The control state as the program keeps it.
-use Rattle.std.specs.Prelude.{ℕ, ◌<◌, ◌≤◌, ◌-◌, ◌^◌, Bool, All, Option, Some, None, option_map, Result, Err}
+use Rattle.std.specs.Prelude.{ℕ, ◌<◌, ◌≤◌, ◌+◌, ◌-◌, ◌^◌, Bool, All, Option, Some, None, option_map, Result, Err}
 use Rattle.p4_types.specs.declared.code.Cause.{Cause}
 use Rattle.p4_types.specs.declared.code.Code.TheVariants as codes
 use Rattle.p4_types.specs.declared.code.Rule.TheVariants as rules
@@ -7,7 +7,7 @@ use Rattle.p4_types.specs.declared.events.Event.TheVariants as events
 use Rattle.p4_types.specs.declared.messages.Update.{Update}
 use Rattle.p4_types.specs.declared.table.Change.{Change}
 use Rattle.p4_types.specs.declared.table.Room.{Room}
-use Rattle.plane_spec.specs.Config.{Event}
+use Rattle.plane_spec.specs.Config.{Event, cells_in}
 use Rattle.plane_spec.specs.Planes.{Control, Plane, target, scope_of}
 use Rattle.plane_spec.specs.UpdateRules.{resolution}
 use Rattle.plane_state.specs.declared.plane.Drawn.{Drawn}
@@ -19,6 +19,13 @@ pub record ImageVersions : Type 0 where
   pub now : Control
   pub before : Control
   pub steps : ℕ
+
+-- the active and the staged plane as they are, and as they were before the changes that can be undone
+pub record PlanesVersions : Type 0 where
+  pub active : Option Plane
+  pub staged : Option Plane
+  pub former_active : Option Plane
+  pub former_staged : Option Plane
 
 -- the control state from its parts
 abbrev pub control_of : (device cpu rows : ℕ) → RolesState → (active staged : Option Plane) → (next next_slot : ℕ) → Bool → Control
@@ -47,10 +54,17 @@ abbrev pub BelowIn : ℕ → Option Plane → Type 0
 BelowIn next None = Unit {0}
 BelowIn next (Some plane) = All (λ entry. entry.seq < next) plane.entries
 
--- there are no more numbers and slots than there are, and the entries have drawn theirs
+-- every cell of a plane's counters has drawn its slot
+abbrev pub CellsBelowIn : ℕ → Option Plane → Type 0
+CellsBelowIn next None = Unit {0}
+CellsBelowIn next (Some plane) = plane.cells + cells_in plane.config ≤ next
+
+-- there are no more numbers and slots than there are, and the entries and cells have drawn theirs
 pub record IsNumbered (c : Control) : Type 0 where
   pub active : BelowIn c.next c.active
   pub staged : BelowIn c.next c.staged
+  pub active_cells : CellsBelowIn c.next_slot c.active
+  pub staged_cells : CellsBelowIn c.next_slot c.staged
   pub numbers : c.next ≤ 2 ^ 64 - 1
   pub slots : c.next_slot ≤ 1048576
 

@@ -3,7 +3,7 @@ ghost use Rattle.std.specs.Prelude.{◌≡◌, ◌≤◌, ◌+◌, ◌^◌, ◌-
 ghost use Rattle.plane_spec.specs.Config.{cells_in};
 ghost use Rattle.plane_spec.specs.Entries.{slot_limit};
 ghost use Rattle.plane_spec.specs.Legal.{May, MayCommit};
-ghost use Rattle.plane_spec.specs.Planes.{apply, saved, committed, staged_committed, change_applied, with_roles, session_by};
+ghost use Rattle.plane_spec.specs.Planes.{apply, saved, committed, change_applied, with_roles, session_by};
 ghost use Rattle.plane_image.specs.Image.{steps_of};
 ghost use Rattle.role_arbiter.specs.Arbitration.{settled, left, is_refused};
 
@@ -13,7 +13,7 @@ use p4_types::events::{Committed, Event, Origin};
 use p4_types::ids::Ids;
 use p4_types::shared::Shared;
 use p4_types::table::Change;
-use plane_state::{Config, Plane};
+use plane_state::Config;
 use role_arbiter::Session;
 use std::alloc::Global;
 
@@ -24,18 +24,6 @@ fn copied(config: &Option<Ids>) -> Option<Ids>
         None => None,
         Some(ids) => Some(ids.copy()),
     }
-}
-
-// How many cells the indirect counters of a configuration have together, of which there are no more than slots.
-fn cells_in(config: &Config) -> u64
-    requires few { cells_in config.now ≤ slot_limit }
-    ensures { result ≡ cells_in config.now }
-{
-    let mut cells = 0;
-    for counter in config.info().info().counters.as_slice() {
-        cells += counter.size;
-    }
-    cells
 }
 
 impl Image {
@@ -129,22 +117,7 @@ impl Image {
         }
     }
 
-    // Stages a new plane of a configuration, whose cells draw their slots.
-    fn stage(&mut self, alloc: Global, config: &Shared<Config>) -> Result<(), NoMemory>
-        requires slots { self.old.now.next_slot + cells_in config.now ≤ slot_limit }
-        ensures ok { OnOk result (self.new.now ≡ saved self.old.now config.now) }
-        ensures err { OnErr result (self.new.now ≡ self.old.now) }
-        ensures before_err { OnErr result (self.new.before ≡ self.old.before) }
-        ensures steps { self.new.steps ≡ self.old.steps }
-    {
-        let config = config.share()?;
-        let cells = cells_in(config.get()) as u32;
-        self.staged = Some(Plane::open(alloc, config, self.next_slot));
-        self.next_slot += cells;
-        Ok(())
-    }
-
-    fn save(&mut self, alloc: Global, config: &Shared<Config>) -> Result<(), NoMemory>
+    fn save_step(&mut self, alloc: Global, config: &Shared<Config>) -> Result<(), NoMemory>
         requires settled { self.old.before ≡ self.old.now }
         requires slots { self.old.now.next_slot + cells_in config.now ≤ slot_limit }
         ensures ok { OnOk result (self.new.now ≡ saved self.old.now config.now) }
@@ -153,25 +126,13 @@ impl Image {
         ensures steps_ok { OnOk result (self.new.steps ≡ min (self.old.steps + 1) (2 ^ 64 - 1)) }
         ensures steps_err { OnErr result (self.new.steps ≡ self.old.steps) }
     {
-        self.stage(alloc, config)?;
+        self.save(alloc, config)?;
         self.keep(1);
         Ok(())
     }
 
-    // The staged plane, if there is one, becomes the active one.
-    fn commit_staged(&mut self)
-        ensures now { self.new.now ≡ staged_committed self.old.now.staged self.old.now }
-        ensures settled { self.new.before ≡ self.new.now }
-        ensures steps { self.new.steps ≡ min (self.old.steps + 1) (2 ^ 64 - 1) }
-    {
-        if let Some(plane) = self.staged.take() {
-            self.active = Some(plane);
-        }
-        self.keep(1);
-    }
-
     // Makes what is committed the active plane, and leaves none staged.
-    fn commit(&mut self, alloc: Global, content: &Committed<Config>) -> Result<(), NoMemory>
+    fn commit_step(&mut self, alloc: Global, content: &Committed<Config>) -> Result<(), NoMemory>
         requires settled { self.old.before ≡ self.old.now }
         requires may { MayCommit self.old.now content.now }
         ensures ok { OnOk result (self.new.now ≡ committed self.old.now content.now) }
@@ -181,16 +142,11 @@ impl Image {
         ensures steps_err { OnErr result (self.new.steps ≡ self.old.steps) }
     {
         match content {
-            Committed::Staged => {
-                self.commit_staged();
-                Ok(())
-            }
-            Committed::Fresh(config) => {
-                self.stage(alloc, config)?;
-                self.commit_staged();
-                Ok(())
-            }
+            Committed::Staged => self.promote(),
+            Committed::Fresh(config) => self.install(alloc, config)?,
         }
+        self.keep(1);
+        Ok(())
     }
 
     // The end of the list.
@@ -219,8 +175,8 @@ impl Image {
             Event::Leave { caller, .. } => self.depart(*caller),
             Event::Change { change, .. } => self.one_change(alloc, change)?,
             Event::Batch { changes, .. } => self.batch(alloc, changes.as_slice())?,
-            Event::Save { config, .. } => self.save(alloc, config)?,
-            Event::Commit { content, .. } => self.commit(alloc, content)?,
+            Event::Save { config, .. } => self.save_step(alloc, config)?,
+            Event::Commit { content, .. } => self.commit_step(alloc, content)?,
             Event::Close => self.close(),
         }
         Ok(())

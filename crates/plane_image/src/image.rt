@@ -1,18 +1,19 @@
 //! The image.
 ghost use Rattle.std.specs.Prelude.{◌≡◌, ◌≤◌, ◌+◌, ◌-◌, ◌^◌, min, true, false, is_some, IfOk, OnOk, OnErr};
 ghost use Rattle.std.specs.Option.{option_map};
-ghost use Rattle.plane_spec.specs.Entries.{next_number};
-ghost use Rattle.plane_spec.specs.Planes.{rows_in, room_of, target, cause_in, change_applied, with_roles};
-ghost use Rattle.plane_image.specs.Image.{now_of, before_of, BelowIn, after_in, drawn_in};
+ghost use Rattle.plane_spec.specs.Entries.{slot_limit};
+ghost use Rattle.plane_spec.specs.Planes.{room_of, target, cause_in, change_applied, with_roles};
+ghost use Rattle.plane_image.specs.Image.{CellsBelowIn};
 ghost use Rattle.role_arbiter.specs.Arbitration.{arbitrated, left, is_refused};
 ghost use Rattle.role_arbiter.specs.Placing.{IsPlaced};
 ghost use Rattle.role_arbiter.specs.Telling.{told_at_arbitration};
 ghost use Rattle.table_store.specs.Answers.{Refuses};
 
+use crate::planes::Planes;
 use list_types::Refusal;
-use p4_types::code::{Cause, Code, Rule};
+use p4_types::code::Cause;
 use p4_types::table::{Change, Room};
-use plane_state::{Drawn, Plane};
+use plane_state::Plane;
 use role_arbiter::{Lanes, Placed, Roles, UndoRoles};
 use std::alloc::Global;
 use std::marker::Model;
@@ -28,8 +29,7 @@ pub struct Image {
     pub(crate) cpu: u16,
     pub(crate) rows: u32,
     pub(crate) roles: UndoRoles,
-    pub(crate) active: Option<Plane>,
-    pub(crate) staged: Option<Plane>,
+    pub(crate) planes: Planes,
     pub(crate) next: u64,
     pub(crate) next_slot: u32,
     pub(crate) former_next: u64,
@@ -39,7 +39,7 @@ pub struct Image {
 }
 
 impl Model for Image {
-    ghost use Rattle.plane_image.specs.Image.{ImageVersions, control_of, now_of, before_of, IsImage};
+    ghost use Rattle.plane_image.specs.Image.{ImageVersions, control_of, IsImage};
     ghost use Rattle.bm_expr.specs.TreeCode.{number_code, truth_code};
     ghost use Rattle.std.specs.Coded.{codes};
 
@@ -48,66 +48,16 @@ impl Model for Image {
     ghost Value = { ImageVersions };
 
     ghost view = { λ i. record {
-      now = control_of i.device i.cpu i.rows i.roles.now (now_of i.active) (now_of i.staged) i.next i.next_slot i.closed;
-      before = control_of i.device i.cpu i.rows i.roles.before (before_of i.active) (before_of i.staged) i.former_next i.former_slot i.closed;
+      now = control_of i.device i.cpu i.rows i.roles.now i.planes.active i.planes.staged i.next i.next_slot i.closed;
+      before = control_of i.device i.cpu i.rows i.roles.before i.planes.former_active i.planes.former_staged i.former_next i.former_slot i.closed;
       steps = i.steps;
     } };
 
     ghost invariant = { λ i. IsImage (record {
-      now = control_of i.device i.cpu i.rows i.roles.now (now_of i.active) (now_of i.staged) i.next i.next_slot i.closed;
-      before = control_of i.device i.cpu i.rows i.roles.before (before_of i.active) (before_of i.staged) i.former_next i.former_slot i.closed;
+      now = control_of i.device i.cpu i.rows i.roles.now i.planes.active i.planes.staged i.next i.next_slot i.closed;
+      before = control_of i.device i.cpu i.rows i.roles.before i.planes.former_active i.planes.former_staged i.former_next i.former_slot i.closed;
       steps = i.steps;
     }) };
-}
-
-fn rows_in(plane: &Option<Plane>) -> usize
-    ensures { result ≡ rows_in (now_of plane.now) }
-{
-    match plane {
-        Some(plane) => plane.store().len(),
-        None => 0,
-    }
-}
-
-// Makes a change of a plane, if there is one.
-fn change_in(
-    plane: &mut Option<Plane>,
-    alloc: Global,
-    room: Room,
-    change: &Change,
-) -> Result<Drawn, Refusal<Cause>>
-    requires above { BelowIn (next_number room) (now_of plane.old) }
-    ensures refused { Refuses result (cause_in (now_of plane.old) room change.now) }
-    ensures ok { OnOk result (now_of plane.new ≡ after_in (now_of plane.old) room change.now) }
-    ensures drawn { IfOk result (λ drawn. drawn ≡ drawn_in (now_of plane.old) change.now) }
-    ensures err { OnErr result (now_of plane.new ≡ now_of plane.old) }
-    ensures before { before_of plane.new ≡ before_of plane.old }
-{
-    match plane {
-        Some(plane) => plane.change(alloc, room, change),
-        None => Err(Refusal::For(Cause {
-            rule: Rule::U3,
-            code: Code::NotFound,
-        })),
-    }
-}
-
-fn keep_in(plane: &mut Option<Plane>)
-    ensures now { now_of plane.new ≡ now_of plane.old }
-    ensures before { before_of plane.new ≡ now_of plane.old }
-{
-    if let Some(plane) = plane {
-        plane.keep();
-    }
-}
-
-fn undo_in(plane: &mut Option<Plane>)
-    ensures now { now_of plane.new ≡ before_of plane.old }
-    ensures before { before_of plane.new ≡ before_of plane.old }
-{
-    if let Some(plane) = plane {
-        plane.undo();
-    }
 }
 
 impl Image {
@@ -133,19 +83,23 @@ impl Image {
 
     /// The plane that packets run through.
     pub fn active(&self) -> Option<&Plane>
-        ensures { option_map (λ plane. plane.now.now) result ≡ self.now.now.active }
+        ensures plane { option_map (λ plane. plane.now.now) result ≡ self.now.now.active }
+        ensures slots { CellsBelowIn slot_limit (option_map (λ plane. plane.now.now) result) }
     {
-        self.active.as_ref()
+        self.planes.active()
+    }
+
+    pub fn is_staged(&self) -> bool
+        ensures { result ≡ is_some self.now.now.staged }
+    {
+        self.planes.is_staged()
     }
 
     /// The plane that controllers write and read: the staged one where there is one, else the active one.
     pub fn target(&self) -> Option<&Plane>
         ensures { option_map (λ plane. plane.now.now) result ≡ target self.now.now }
     {
-        match &self.staged {
-            Some(plane) => Some(plane),
-            None => self.active.as_ref(),
-        }
+        self.planes.target()
     }
 
     /// How many steps there were.
@@ -159,11 +113,10 @@ impl Image {
     pub(crate) fn room(&self) -> Room
         ensures { result ≡ room_of self.now.now }
     {
+        let (active, staged) = self.planes.rows();
         let rows = self.rows as usize;
         Room {
-            rows: rows
-                .saturating_sub(rows_in(&self.active))
-                .saturating_sub(rows_in(&self.staged)) as u32,
+            rows: rows.saturating_sub(active).saturating_sub(staged) as u32,
             slots: SLOT_LIMIT - self.next_slot,
             numbers: u64::MAX - self.next,
         }
@@ -178,7 +131,7 @@ impl Image {
         ensures steps { self.new.steps ≡ self.old.steps }
     {
         let room = self.room();
-        let drawn = change_in(&mut self.staged, alloc, room, change)?;
+        let drawn = self.planes.change_staged(alloc, room, change)?;
         self.next += drawn.numbers;
         self.next_slot += drawn.slots;
         Ok(())
@@ -193,7 +146,7 @@ impl Image {
         ensures steps { self.new.steps ≡ self.old.steps }
     {
         let room = self.room();
-        let drawn = change_in(&mut self.active, alloc, room, change)?;
+        let drawn = self.planes.change_active(alloc, room, change)?;
         self.next += drawn.numbers;
         self.next_slot += drawn.slots;
         Ok(())
@@ -207,7 +160,7 @@ impl Image {
         ensures before { self.new.before ≡ self.old.before }
         ensures steps { self.new.steps ≡ self.old.steps }
     {
-        if self.staged.is_some() {
+        if self.planes.is_staged() {
             self.change_staged(alloc, change)
         } else {
             self.change_active(alloc, change)
@@ -244,8 +197,7 @@ impl Image {
         ensures steps { self.new.steps ≡ min (self.old.steps + steps) (2 ^ 64 - 1) }
     {
         self.roles.settle();
-        keep_in(&mut self.active);
-        keep_in(&mut self.staged);
+        self.planes.keep();
         self.former_next = self.next;
         self.former_slot = self.next_slot;
         self.steps = self.steps.saturating_add(steps);
@@ -258,8 +210,7 @@ impl Image {
         ensures steps { self.new.steps ≡ self.old.steps }
     {
         self.roles.undo();
-        undo_in(&mut self.active);
-        undo_in(&mut self.staged);
+        self.planes.undo();
         self.next = self.former_next;
         self.next_slot = self.former_slot;
     }

@@ -5,6 +5,9 @@
 mod applying;
 mod image;
 mod opening;
+mod pipelines;
+mod planes;
+mod replaced;
 mod scope;
 mod updating;
 

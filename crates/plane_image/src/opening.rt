@@ -5,6 +5,7 @@ ghost use Rattle.plane_spec.specs.Planes.{opened, made_plane};
 ghost use Rattle.plane_image.specs.Image.{now_of, before_of};
 
 use crate::image::Image;
+use crate::planes::Planes;
 use list_types::NoMemory;
 use p4_types::events::Start;
 use p4_types::messages::Uint128;
@@ -59,8 +60,7 @@ impl Image {
             cpu: start.cpu,
             rows: start.rows,
             roles,
-            active,
-            staged: None,
+            planes: Planes::open(active),
             next: 1,
             next_slot: 0,
             former_next: 1,

@@ -1,8 +1,7 @@
 //! The updates of a Write.
 ghost use Rattle.std.specs.Prelude.{◌≡◌, IfOk, OnOk, fold};
-ghost use Rattle.plane_spec.specs.Planes.{scope_of, outcome};
+ghost use Rattle.plane_spec.specs.Planes.{scope_of, outcome, state_after, outcomes};
 ghost use Rattle.plane_image.specs.Image.{resolved};
-ghost use Rattle.switch_spec.specs.Answer.{state_after, outcomes};
 
 use crate::image::Image;
 use crate::scope::Scope;

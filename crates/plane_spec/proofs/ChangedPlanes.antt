@@ -30,7 +30,7 @@ record MayStand (c : Control) (old new : Plane) (next next_slot : ℕ) : Type 0 
   slot_limit : next_slot ≤ slot_limit
 
 -- with another target plane, and other numbers that are drawn next
-abbrev put : Control → Plane → ℕ → ℕ → Control
+abbrev pub put : Control → Plane → ℕ → ℕ → Control
 put c plane next next_slot = record (with_target c plane) { next = next; next_slot = next_slot }
 
 -- the plane is the target, and one that may stand in its place keeps what is kept
@@ -45,7 +45,7 @@ abbrev IsUntouched : (Entry → ℕ) → Type 0
 IsUntouched f = (change : EntryChange) (entry : Entry) → f (with_change change entry) ≡ f entry
 
 -- another target plane leaves what is drawn next
-same_next : (b : Bool) (c : Control) (plane : Plane) → let d : Control = cond b (record c { staged = Some plane }) (record c { active = Some plane }) in d ≡ record d { next = c.next; next_slot = c.next_slot }
+pub same_next : (b : Bool) (c : Control) (plane : Plane) → let d : Control = cond b (record c { staged = Some plane }) (record c { active = Some plane }) in d ≡ record d { next = c.next; next_slot = c.next_slot }
 same_next true c plane = refl
 same_next false c plane = refl
 
@@ -208,7 +208,7 @@ unless_kept None change c old none t = changed_kept change c old t none
 unless_kept (Some cause) change c old is t = t.kept
 
 -- the same state with these planes
-abbrev with_planes : Control → Option Plane → Option Plane → Control
+abbrev pub with_planes : Control → Option Plane → Option Plane → Control
 with_planes c active staged = record c { active = active; staged = staged }
 
 staged_target : (c : Control) (active : Option Plane) (plane : Plane) → IsKept (with_planes c active (Some plane)) → IsTarget (with_planes c active (Some plane)) plane

@@ -3,7 +3,9 @@ pub mod Counts
 pub mod Drawn
 pub mod EntryOrder
 pub mod KeptPlanes
+pub mod Lasting
 pub mod Lists
+pub mod Slots
 pub mod SoundPlanes
 pub mod SoundRoles
 pub mod Steady

@@ -23,7 +23,7 @@ commit_kept contents.Staged c k may = staged_kept c.staged c k k
 commit_kept (contents.Fresh config) c k may =
     kept_committed c.active (made_plane c.next_slot config) c.next (c.next_slot + cells_in config) c.rows (save_kept c config k may.slots)
 
-event_kept : (event : Event) (c : Control) → IsKept c → May c event → IsKept (apply c event)
+pub event_kept : (event : Event) (c : Control) → IsKept c → May c event → IsKept (apply c event)
 event_kept (events.Arbitrate by config) c k may = k
 event_kept (events.Leave caller call) c k may = k
 event_kept (events.Change by change) c k may = changes_kept (change ∷ []) c k
@@ -41,7 +41,7 @@ unfolding bridge_info
 no_cells = refl
 
 -- at the start there is no plane, or that of the bridge, which has no cells
-first_kept : (bridge : Bool) (rows : ℕ) → AreKept (cond bridge (Some (made_plane 0 bridge_config)) None) None 1 0 rows
+pub first_kept : (bridge : Bool) (rows : ℕ) → AreKept (cond bridge (Some (made_plane 0 bridge_config)) None) None 1 0 rows
 first_kept true rows =
     let none : 0 + cells_in bridge_config ≡ 0 = omega (arith, no_cells) in
     let made : AreKept (Some (made_plane 0 bridge_config)) None 1 (0 + cells_in bridge_config) rows = kept_committed None (made_plane 0 bridge_config) 1 (0 + cells_in bridge_config) rows (kept_saved None None 1 0 rows bridge_config (kept_at_first rows) (omega arith)) in

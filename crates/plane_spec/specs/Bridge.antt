@@ -20,7 +20,6 @@ use Rattle.p4_types.specs.declared.info.MatchKind.TheVariants.{Exact}
 use Rattle.p4_types.specs.declared.info.Scope.TheVariants.{TableAndDefault}
 use Rattle.p4_types.specs.declared.info.Table.{Table}
 use Rattle.p4_types.specs.declared.p4info.Preamble.{Preamble}
-use Rattle.p4_types.specs.declared.table.DefaultAction.{DefaultAction}
 use Rattle.role_arbiter.specs.declared.sessions.Session.{Session}
 use Rattle.plane_spec.specs.Config.{Config}
 
@@ -73,10 +72,6 @@ bridge_info = record {
   controller_packet_metadata = [];
   digests = [];
 }
-
--- a frame to an address that is not in the table is dropped
-abbrev pub bridge_defaults : List DefaultAction
-bridge_defaults = (record { table = bridge_table; action = record { action = drop_action; arguments = [] } }) ∷ []
 
 -- its P4Info as canonical bytes
 unfoldable pub bridge_bytes : List ℕ
@@ -165,7 +160,7 @@ bridge_program = record {
 
 -- its configuration: it has no device configuration, and its cookie is 0
 abbrev pub bridge_config : Config
-bridge_config = record { p4info = bridge_bytes; device_config = []; cookie = 0; info = bridge_info; program = bridge_program; defaults = bridge_defaults }
+bridge_config = record { p4info = bridge_bytes; device_config = []; cookie = 0; info = bridge_info; program = bridge_program }
 
 -- controller 0 starts as the primary of role 0
 abbrev pub bridge_session : Session

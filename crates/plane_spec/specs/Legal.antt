@@ -8,7 +8,7 @@ use Rattle.p4_types.specs.declared.messages.Update.{Update}
 use Rattle.p4_types.specs.declared.table.Change.{Change}
 use Rattle.role_arbiter.specs.Arbitration.{cause, asked}
 use Rattle.role_arbiter.specs.State.{session_in}
-use Rattle.plane_spec.specs.Config.{Config, Committed, Event, cells_in}
+use Rattle.plane_spec.specs.Config.{Config, Committed, Event, cells_in, IsValidConfig}
 use Rattle.plane_spec.specs.Entries.{slot_limit}
 use Rattle.plane_spec.specs.Planes.{Control, primary, is_of_primary, scope_of, outcome, change_applied, apply, session_by}
 
@@ -28,10 +28,6 @@ pub record MayArbitrate (c : Control) (by : Origin) (config : Option (List ℕ))
   pub update : MasterArbitrationUpdate
   pub asks : asked by.caller update ≡ session_by by config
   pub no_cause : cause c.roles by.caller update ≡ None
-
--- No call sets a pipeline yet. Once one does, this says which configurations are valid.
-abbrev pub IsValidConfig : Config → Type 0
-IsValidConfig config = ⊥
 
 -- a pipeline may be set under the id of its role's primary, which may write all
 pub record MaySet (c : Control) (by : Origin) : Type 0 where

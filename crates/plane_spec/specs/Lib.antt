@@ -8,4 +8,5 @@ pub mod PlaneLaws
 pub mod Planes
 pub mod Profiles
 pub mod RoleLaws
+pub mod SlotLaws
 pub mod UpdateRules

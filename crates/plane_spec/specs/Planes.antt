@@ -23,7 +23,7 @@ use Rattle.role_arbiter.specs.Arbitration.{arbitrated, settled, left}
 use Rattle.role_arbiter.specs.Election.{election_number}
 use Rattle.role_arbiter.specs.State.{RolesState, no_roles, primary_of}
 use Rattle.plane_spec.specs.Bridge.{bridge_config, bridge_session}
-use Rattle.plane_spec.specs.Config.{Config, Committed, Event, cells_in}
+use Rattle.plane_spec.specs.Config.{Config, Committed, Event, cells_in, own_defaults}
 use Rattle.plane_spec.specs.Entries.{slot_limit, insert_cause, absence_cause, new_entry, slots_drawn, inserted, modified, deleted}
 use Rattle.plane_spec.specs.Objects.{table_of}
 use Rattle.plane_spec.specs.Profiles.{Member, Group}
@@ -153,13 +153,9 @@ with_default table action defaults = filter (λ d. nat_lt d.table table) default
 abbrev pub default_in : ℕ → List DefaultAction → Option DefaultAction
 default_in table defaults = find (λ d. d.table == table) defaults
 
--- what a table's miss runs: the changed default action, else the program's own, if it has one
-abbrev pub miss_action : Plane → ℕ → Option ActionCall
-miss_action plane table = option_map (λ d. d.action) (or_else (default_in table plane.changed) (default_in table plane.config.defaults))
-
--- the default entry of a table that a Read shows: the changed one, else the program's own, if it has one
+-- the default entry of a table that a Read shows: the changed one, else the program's own, if it has one that the P4Info names
 abbrev pub default_entry : Plane → ℕ → Option DefaultAction
-default_entry plane table = or_else (default_in table plane.changed) (default_in table plane.config.defaults)
+default_entry plane table = or_else (default_in table plane.changed) (default_in table (own_defaults plane.config.program))
 
 -- with another plane in the place of the target
 abbrev pub with_target : Control → Plane → Control
@@ -245,6 +241,16 @@ outcome_in (Some plane) c role update = checked (room_of c) plane (resolution pl
 -- what an update of a role's primary does in this state: the first rule of U1 to U12 that it breaks, or its change
 unfoldable pub outcome : Control → ℕ → Update → Result Change Cause
 outcome c role update = outcome_in (target c) c role update
+
+-- the state after an update: one that fails leaves it
+abbrev pub state_after : Control → Result Change Cause → Control
+state_after c (Ok change) = change_applied c change
+state_after c (Err cause) = c
+
+-- what each update of a list does in the state that the earlier ones left
+abbrev pub outcomes : Control → ℕ → List Update → List (Result Change Cause)
+outcomes c role [] = []
+outcomes c role (update ∷ updates) = outcome c role update ∷ outcomes (state_after c (outcome c role update)) role updates
 
 -- the state after the first n steps of the list; Close is none, and comes last
 abbrev pub after : Start → List Event → ℕ → Control

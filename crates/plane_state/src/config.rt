@@ -1,10 +1,15 @@
 //! Forwarding pipeline configurations.
-ghost use Rattle.std.specs.Prelude.{◌≡◌};
+ghost use Rattle.std.specs.Prelude.{◌≡◌, ◌++◌, [], ◌∷◌, IfOk, OnOk};
+ghost use Rattle.std.specs.List.{filter_map};
+ghost use Rattle.plane_spec.specs.Config.{own_default, own_defaults};
 
 use bm_pipeline::Pipeline;
-use list_types::{ByteList, List};
-use p4_types::table::DefaultAction;
+use bm_pipeline::program::Program;
+use bm_pipeline::tables::Table;
+use list_types::{ByteList, List, NoMemory};
+use p4_types::table::{ActionCall, DefaultAction};
 use p4info_model::P4Info;
+use std::alloc::Global;
 use std::marker::Model;
 
 /// A forwarding pipeline configuration (P4Runtime 1.3.0, "ForwardingPipelineConfig"): its bytes as they were given, and
@@ -20,7 +25,8 @@ pub struct Config {
 }
 
 impl Model for Config {
-    ghost use Rattle.plane_spec.specs.Config.{Config};
+    ghost use Rattle.plane_spec.specs.Config.{Config, own_defaults};
+    ghost use Rattle.std.specs.Prelude.{◌≡◌};
     ghost use Rattle.bm_expr.specs.TreeCode.{number_code, truth_code};
     ghost use Rattle.std.specs.Coded.{codes};
 
@@ -28,30 +34,69 @@ impl Model for Config {
 
     ghost Value = { Config };
 
-    ghost view = { λ c. record { p4info = c.p4info; device_config = c.device_config; cookie = c.cookie; info = c.info; program = c.pipeline; defaults = c.defaults } };
+    ghost view = { λ c. record { p4info = c.p4info; device_config = c.device_config; cookie = c.cookie; info = c.info; program = c.pipeline } };
+
+    ghost invariant = { λ c. c.defaults ≡ own_defaults c.pipeline };
+}
+
+// The default action that a table has by itself, as the P4Info names it.
+fn own_default(table: &Table) -> Option<DefaultAction>
+    ensures { result ≡ own_default table.now }
+{
+    let entry = table.default_entry.as_ref()?;
+    match (table.id, entry.action.reference) {
+        (Some(table), Some(action)) => Some(DefaultAction {
+            table,
+            action: ActionCall {
+                action,
+                arguments: entry.action_data.copy(),
+            },
+        }),
+        _ => None,
+    }
+}
+
+// The default actions that a program gives its tables, as the P4Info names them.
+fn own_defaults(alloc: Global, program: &Program) -> Result<List<DefaultAction>, NoMemory>
+    ensures { IfOk result (λ defaults. defaults ≡ own_defaults program.now) }
+{
+    let mut defaults = List::new(alloc);
+    for table in program.tables.as_slice() {
+        push_own(&mut defaults, table)?;
+    }
+    Ok(defaults)
+}
+
+fn push_own(defaults: &mut List<DefaultAction>, table: &Table) -> Result<(), NoMemory>
+    ensures { OnOk result (defaults.new ≡ defaults.old ++ filter_map own_default (table.now ∷ [])) }
+{
+    if let Some(default) = own_default(table) {
+        defaults.push(default)?;
+    }
+    Ok(())
 }
 
 impl Config {
-    /// A configuration of these bytes, which mean these objects and this pipeline; `defaults` are the program's own default actions, by
-    /// rising table id. It takes no memory.
+    /// A configuration of these bytes, which mean these objects and this pipeline.
     pub fn new(
+        alloc: Global,
         p4info: ByteList,
         device_config: ByteList,
         cookie: u64,
         info: P4Info,
         pipeline: Pipeline,
-        defaults: List<DefaultAction>,
-    ) -> Config
-        ensures { result ≡ record { p4info = p4info; device_config = device_config; cookie = cookie; info = info; program = pipeline; defaults = defaults } }
+    ) -> Result<Config, NoMemory>
+        ensures { IfOk result (λ config. config ≡ record { p4info = p4info; device_config = device_config; cookie = cookie; info = info; program = pipeline }) }
     {
-        Config {
+        let defaults = own_defaults(alloc, pipeline.program())?;
+        Ok(Config {
             p4info,
             device_config,
             cookie,
             info,
             pipeline,
             defaults,
-        }
+        })
     }
 
     /// The bytes of its P4Info as they were given.
@@ -87,9 +132,9 @@ impl Config {
         &self.pipeline
     }
 
-    /// The program's own default actions, by rising table id.
+    /// The default actions that the program gives its tables, as the P4Info names them.
     pub fn defaults(&self) -> &[DefaultAction]
-        ensures { result.now ≡ self.now.defaults }
+        ensures { result.now ≡ own_defaults self.now.program }
     {
         self.defaults.as_slice()
     }

@@ -3,7 +3,7 @@ ghost use Rattle.std.specs.Prelude.{◌≡◌, ◌<◌, [], All, None, IfOk, OnO
 ghost use Rattle.std.specs.Option.{option_map};
 ghost use Rattle.plane_spec.specs.Entries.{next_number};
 ghost use Rattle.plane_spec.specs.Objects.{table_of};
-ghost use Rattle.plane_spec.specs.Planes.{made_plane, change_cause, insert_cause_in, with_default, default_in, default_entry, miss_action};
+ghost use Rattle.plane_spec.specs.Planes.{made_plane, change_cause, insert_cause_in, with_default, default_in, default_entry};
 ghost use Rattle.plane_state.specs.Versions.{insert_after, plane_after, drawn_by_insert, drawn_by};
 ghost use Rattle.table_store.specs.Answers.{Refuses};
 
@@ -95,16 +95,6 @@ impl Plane {
         match defaults::default_in(self.changed.as_slice(), table) {
             Some(default) => Some(default),
             None => defaults::default_in(self.config.get().defaults(), table),
-        }
-    }
-
-    /// What a table's miss runs: the changed default action, else the program's own, if it has one.
-    pub fn miss_action(&self, table: u32) -> Option<&ActionCall>
-        ensures { option_map (λ call. call.now) result ≡ miss_action self.now.now table }
-    {
-        match self.default_entry(table) {
-            Some(default) => Some(&default.action),
-            None => None,
         }
     }
 

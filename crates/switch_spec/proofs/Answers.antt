@@ -31,24 +31,17 @@ use Rattle.p4_types.specs.declared.table.Change.{Change}
 use Rattle.role_arbiter.specs.declared.sessions.Session.{Session}
 use Rattle.role_arbiter.specs.Arbitration.{cause, asked}
 use Rattle.role_arbiter.specs.State.{session_in}
-use Rattle.switch_spec.specs.Answer.{Answer, Figures, LaneCall, plain, write_reply, write_refusal, write_unless, continued, all_or_nothing, batch, origin, has_failed, outcomes, state_after, atomicity_of, is_atomic, unreadable, read_reply, arbitration_unless, unserved_answer, stream_answer, leave_of, answer_to, answer, called, EventsIgnoreFigures}
+use Rattle.switch_spec.specs.Answer.{Answer, LaneCall, plain, write_reply, write_refusal, write_unless, continued, all_or_nothing, batch, origin, has_failed, atomicity_of, is_atomic, unreadable, read_reply, arbitration_unless, unserved_answer, stream_answer, leave_of, answer_to, answer, called, EventsIgnoreFigures}
+use Rattle.switch_spec.specs.Counts.{Figures}
 use Rattle.plane_spec.specs.Config.{Event}
 use Rattle.plane_spec.specs.Legal.{MayChanges, Legal}
 use Rattle.plane_spec.specs.Objects.{table_of}
-use Rattle.plane_spec.specs.Planes.{Control, Plane, target, primary, is_of_primary, with_roles, change_applied, outcome, applied}
+use Rattle.plane_spec.specs.Planes.{Control, Plane, target, primary, is_of_primary, with_roles, change_applied, outcome, applied, outcomes, state_after}
 use Rattle.plane_spec.proofs.Steady.{change_steady, fold_closed, fold_next}
 use Rattle.switch_spec.specs.Reading.{entry_refusal_in, entity_refusal, first_of, read_unless, read_in, read_result}
 use Rattle.switch_spec.specs.History.{is_unavailable, steps_of}
-
--- It is no refusal for memory, makes no packet, and its events are steps that may follow, no more than a list of updates has.
-pub record IsSound (c : Control) (a : Answer) : Type 0 where
-  pub available : is_unavailable a.code ≡ false
-  pub no_packet : a.packet ≡ None
-  pub all_steps : length (steps_of a.events) ≡ length a.events
-  pub legal : c.closed ≡ false → (rest : List Event) → Legal (applied c a.events) rest → Legal c (a.events ++ rest)
-  pub still_open : c.closed ≡ false → (applied c a.events).closed ≡ false
-  pub few_steps : length (steps_of a.events) ≤ 4096
-  pub few_numbers : (applied c a.events).next ≤ c.next + 4096
+use Rattle.switch_spec.proofs.Settings.{set_sound, get_sound}
+use Rattle.switch_spec.proofs.Sound.{IsSound, Available, plain_sound}
 
 -- as the roles stay, so do the primaries
 still_of_primary : (c d : Control) (role : ℕ) (id : Uint128) → d.roles ≡ c.roles → is_of_primary (primary d role) id ≡ is_of_primary (primary c role) id
@@ -106,22 +99,6 @@ batch_legal : (list : List Change) (c : Control) (by : Origin) → c.closed ≡ 
     → (rest : List Event) → Legal (applied c (batch by list)) rest → Legal c (batch by list ++ rest)
 batch_legal [] c by alive few may rest later = later
 batch_legal (change ∷ list) c by alive few may rest later = ((alive, omega arith, few, may), later)
-
-plain_sound : (c : Control) (code : Code) (messages : List (List ℕ)) → is_unavailable code ≡ false → IsSound c (plain code messages)
-plain_sound c code messages available = record {
-  available = available;
-  no_packet = refl;
-  all_steps = refl;
-  legal = λ alive rest later. later;
-  still_open = λ alive. alive;
-  few_steps = omega arith;
-  few_numbers = omega arith;
-}
-
--- no refusal is one for memory
-abbrev pub Available : Option Code → Type 0
-Available None = Unit {0}
-Available (Some code) = is_unavailable code ≡ false
 
 -- the refusals of a Write, by what holds of it
 abbrev pub refusal_by : (device primary plane atomicity long : Bool) → Option Code
@@ -350,8 +327,8 @@ leave_sound (Some session) c lane k is = record {
 pub answer_to_sound : (call : Call) (c : Control) (g : Figures) (lane k : ℕ) → IsSound c (answer_to c g lane k call)
 answer_to_sound (calls.Write request) c g lane k = write_sound _ c lane k request refl (write_available (request.device_id == c.device) (is_of_primary (primary c request.role_id) request.election_id) (is_some (target c)) (is_some (atomicity_of request.atomicity)) (nat_lt 4096 (length request.updates)))
 answer_to_sound (calls.Read request) c g lane k = read_sound c _ (read_available c request)
-answer_to_sound (calls.Set request) c g lane k = plain_sound c codes.Unimplemented _ refl
-answer_to_sound (calls.Get request) c g lane k = plain_sound c codes.Unimplemented _ refl
+answer_to_sound (calls.Set request) c g lane k = set_sound c lane k request
+answer_to_sound (calls.Get request) c g lane k = get_sound c request
 answer_to_sound (calls.Stream message) c g lane k = stream_sound message c lane k
 answer_to_sound calls.Capabilities c g lane k = plain_sound c codes.Ok _ refl
 answer_to_sound (calls.Unreadable method) c g lane k = unreadable_sound c method

@@ -10,11 +10,11 @@ use Rattle.p4_types.specs.declared.records.Record.{Record}
 use Rattle.p4_types.specs.declared.tape.TapeRecord.{TapeRecord}
 use Rattle.p4_types.specs.declared.tape.TapeRecord.TheVariants.{Call, Packet, Leave}
 use Rattle.p4_types.specs.declared.tape.Who.TheVariants.{Worker}
-use Rattle.switch_spec.specs.Answer.{Figures, no_figures, LaneCall, Asks, Leaves}
+use Rattle.switch_spec.specs.Answer.{LaneCall, Asks, Leaves}
 use Rattle.plane_spec.specs.Config.{Event}
 use Rattle.plane_spec.specs.Planes.{Control, applied, after}
 use Rattle.switch_spec.specs.History.{Made, History, Numbered, own_events, journal_events, published, is_refused_for_memory, expected, answered}
-use Rattle.switch_spec.specs.Counts.{Arrival, Carried}
+use Rattle.switch_spec.specs.Counts.{Figures, no_figures, Arrival, Carried}
 use Rattle.switch_spec.specs.Meaning as meaning
 use Rattle.switch_spec.specs.Play.{Played, begun, next_call, next_packet, play_call, play_packet, call_item, answering}
 use Rattle.switch_spec.specs.Report.{Fits, InTurn, IsNext, IsLockstepReport, Lockstep, packet_out, carried_after, TapeDeterminesReport, report_of}

@@ -1,25 +1,32 @@
 -- The run in one pass has legal events, and each of its packets fits them.
-use Rattle.std.proofs.Common.{◌≡◌, ℕ, ◌≤◌, false, List, [], ◌∷◌, ◌++◌, length, map, take, refl, ap, ◌∙◌, sym, subst, append_assoc, length-append, arith}
+use Rattle.std.proofs.Common.{◌≡◌, ℕ, ◌≤◌, false, List, [], ◌∷◌, ◌++◌, length, map, take, Option, refl, ap, ap₂, ◌∙◌, sym, subst, append_assoc, length-append, arith}
 use Rattle.std.proofs.lemmas.List.Elements.{filter_map-append}
 use Rattle.std.proofs.lemmas.List.Sums.{fold-append}
 use Rattle.std.proofs.Math.Seq.{take-append_seam}
+use Rattle.std.specs.Prelude.{fold}
 use Rattle.std.specs.List.{zip, AllByRecursion}
 use Rattle.p4_types.specs.declared.events.Event.TheVariants as events
 use Rattle.p4_types.specs.declared.events.Start.{Start}
+use Rattle.p4_types.specs.declared.journal.CellLine.{CellLine}
+use Rattle.p4_types.specs.declared.journal.CountLine.{CountLine}
+use Rattle.p4_types.specs.declared.journal.Entry.{Entry}
+use Rattle.p4_types.specs.declared.journal.Report.{Report}
+use Rattle.p4_types.specs.declared.records.Record.{Record}
 use Rattle.p4_types.specs.declared.tape.Who.TheVariants.{Worker}
-use Rattle.switch_spec.specs.Answer.{no_figures, LaneCall}
+use Rattle.switch_spec.specs.Answer.{LaneCall}
 use Rattle.plane_spec.specs.Config.{Event}
 use Rattle.plane_spec.specs.Legal.{Legal}
-use Rattle.plane_spec.specs.Planes.{Control, opened, apply, applied, after}
+use Rattle.plane_spec.specs.Planes.{Control, Plane, opened, apply, applied, after}
 use Rattle.switch_spec.specs.History.{journal_events, published, step_of, steps_of}
-use Rattle.switch_spec.specs.Counts.{Carried, counts_in, cells_in}
+use Rattle.switch_spec.specs.CountLaws.{counted}
+use Rattle.switch_spec.specs.Counts.{Figures, no_figures, Carried, counts_in, cells_in, count_lines, cell_lines}
 use Rattle.switch_spec.specs.Meaning as meaning
-use Rattle.switch_spec.specs.Play.{Played, begun, next_call, next_packet, play_call, play_refusal, play_packet, Turn, Answers, Refuses, Carries, items_of, played, played_report}
+use Rattle.switch_spec.specs.Play.{Played, begun, next_call, next_packet, play, play_call, play_refusal, play_packet, Turn, Answers, Refuses, Carries, items_of, played, played_report}
 use Rattle.switch_spec.specs.Report.{Fits, made_with_packet, IsRun, IsLockstepReport, final, report_of}
 use Rattle.switch_spec.specs.ReportText.{report_text}
 use Rattle.switch_spec.proofs.Answers.{answer_sound}
 use Rattle.switch_spec.proofs.Following.{NoPackets, calls_follow, packets_follow, none_of_controllers, no_packets, no_packets_out}
-use Rattle.switch_spec.proofs.NoCounts.{no_counts, no_cells}
+use Rattle.switch_spec.proofs.Counters.{counters_keep_records}
 use Rattle.switch_spec.proofs.Playing.{call_events, made, carried, own_events_of, journal_played, records_played, lockstep_played, history_played, numbered_played, in_turn_played}
 
 -- the events that the rest of a tape adds
@@ -113,18 +120,55 @@ run_played start tape =
       fits = fits_played start _ p tape [] (record { control = refl; steps = refl; all_steps = refl }) end_is;
     }
 
--- at its end nothing is counted
-pub nothing_counted : (start : Start) (tape : List Turn) (records : List Carried) → (counts_in (final start (made (begun start) tape)).active records ≡ []) × (cells_in (final start (made (begun start) tape)).active records ≡ [])
-nothing_counted start tape records =
-    let legal = (run_played start tape).legal in (no_counts start _ legal records, no_cells start _ legal records)
+-- the state behind turns is that behind their events
+pub control_played : (p : Played) (tape : List Turn) → (fold play p tape).control ≡ applied p.control (events_from p tape)
+unfolding play
+control_played p [] = refl
+control_played p (Answers lane call ∷ tape) = control_played (play_call p lane call) tape ∙ sym (fold-append apply p.control (call_events p lane call) (events_from (play_call p lane call) tape))
+control_played p (Refuses lane call ∷ tape) = control_played (play_refusal p lane) tape
+control_played p (Carries lane port packet ∷ tape) = control_played (play_packet p lane port packet) tape
+
+-- the counters have counted the packets that were carried
+pub figures_played : (p : Played) (tape : List Turn) → (fold play p tape).figures ≡ fold counted p.figures (carried p tape)
+unfolding play
+figures_played p [] = refl
+figures_played p (Answers lane call ∷ tape) = figures_played (play_call p lane call) tape
+figures_played p (Refuses lane call ∷ tape) = figures_played (play_refusal p lane) tape
+figures_played p (Carries lane port packet ∷ tape) = figures_played (play_packet p lane port packet) tape
+
+-- the plane that is active at the end
+pub final_active : (start : Start) (tape : List Turn) → (final start (made (begun start) tape)).active ≡ (played start tape).control.active
+final_active start tape =
+    let list : List Event = events_from (begun start) tape in
+    let end_is : published start (made (begun start) tape) ≡ list ++ events.Close ∷ [] = ap (λ rest. rest ++ events.Close ∷ []) (events_played (begun start) tape) in
+    ap (λ rest. (applied (opened start) rest).active) end_is
+    ∙ ap (λ (c : Control). c.active) (fold-append apply (opened start) list (events.Close ∷ []))
+    ∙ ap (λ (c : Control). c.active) (sym (control_played (begun start) tape))
+
+-- what the counters have counted is what the records say
+pub lines_played : (start : Start) (tape : List Turn)
+    → (count_lines (played start tape).figures (played start tape).control.active ≡ counts_in (final start (made (begun start) tape)).active (carried (begun start) tape))
+    × (cell_lines (played start tape).figures (played start tape).control.active ≡ cells_in (final start (made (begun start) tape)).active (carried (begun start) tape))
+lines_played start tape =
+    let run = run_played start tape in
+    let kept = counters_keep_records start (published start (made (begun start) tape)) (carried (begun start) tape) run.legal run.fits in
+    let figures = figures_played (begun start) tape in
+    let active = sym (final_active start tape) in (
+      ap₂ (λ (g : Figures) (o : Option Plane). count_lines g o) figures active ∙ kept.0,
+      ap₂ (λ (g : Figures) (o : Option Plane). cell_lines g o) figures active ∙ kept.1,
+    )
+
+abbrev report_with : List Entry → List Record → List CountLine → List CellLine → Report
+report_with journal records counts cells = record { journal = journal; sent = []; records = records; counts = counts; cells = cells }
 
 pub report_played : (start : Start) (tape : List Turn) → played_report (played start tape) ≡ report_of start (items_of tape) (made (begun start) tape) (carried (begun start) tape)
 report_played start tape =
-    let none = nothing_counted start tape (carried (begun start) tape) in
-    ap (λ p. record { journal = p; sent = []; records = (played start tape).records; counts = []; cells = [] }) (journal_played (begun start) tape)
-    ∙ ap (λ r. record { journal = map (λ m. m.entry) (made (begun start) tape); sent = []; records = r; counts = []; cells = [] }) (records_played (begun start) tape)
-    ∙ ap (λ list. record { journal = map (λ m. m.entry) (made (begun start) tape); sent = []; records = map (λ c. c.outcome) (carried (begun start) tape); counts = list; cells = [] }) (sym none.0)
-    ∙ ap (λ list. record { journal = map (λ m. m.entry) (made (begun start) tape); sent = []; records = map (λ c. c.outcome) (carried (begun start) tape); counts = counts_in (final start (made (begun start) tape)).active (carried (begun start) tape); cells = list }) (sym none.1)
+    let p = played start tape in
+    let lines = lines_played start tape in
+    ap (λ x. report_with x p.records (count_lines p.figures p.control.active) (cell_lines p.figures p.control.active)) (journal_played (begun start) tape)
+    ∙ ap (λ x. report_with (map (λ m. m.entry) (made (begun start) tape)) x (count_lines p.figures p.control.active) (cell_lines p.figures p.control.active)) (records_played (begun start) tape)
+    ∙ ap (λ x. report_with (map (λ m. m.entry) (made (begun start) tape)) (map (λ c. c.outcome) (carried (begun start) tape)) x (cell_lines p.figures p.control.active)) lines.0
+    ∙ ap (λ x. report_with (map (λ m. m.entry) (made (begun start) tape)) (map (λ c. c.outcome) (carried (begun start) tape)) (counts_in (final start (made (begun start) tape)).active (carried (begun start) tape)) x) lines.1
 
 -- its text is the lockstep report of the tape
 pub played_is_report : (start : Start) (tape : List Turn) → IsLockstepReport start (items_of tape) (report_text (played_report (played start tape)))

@@ -6,10 +6,10 @@ use Rattle.p4_types.specs.declared.tape.TapeRecord.{TapeRecord}
 use Rattle.p4_types.specs.declared.tape.TapeRecord.TheVariants.{Call, Packet, Leave}
 use Rattle.p4_types.specs.declared.tape.Who.TheVariants.{Controller, Worker}
 use Rattle.p4_types.specs.declared.events.Start.{Start}
-use Rattle.switch_spec.specs.Answer.{Figures, LaneCall, Asks, Leaves}
+use Rattle.switch_spec.specs.Answer.{LaneCall, Asks, Leaves}
 use Rattle.plane_spec.specs.Planes.{Control, applied}
 use Rattle.switch_spec.specs.History.{Made, History, own_events, refused_for_memory, answered, is_refused_for_memory}
-use Rattle.switch_spec.specs.Counts.{Arrival, Carried}
+use Rattle.switch_spec.specs.Counts.{Figures, Arrival, Carried}
 use Rattle.switch_spec.specs.Report.{carried_after, call_on, packet_on, made_on, carried_on, from_cpu, packet_out, packets_out, Lockstep}
 use Rattle.switch_spec.specs.ReportText.{is_who}
 use Rattle.switch_spec.proofs.Answers.{answer_sound}

@@ -8,10 +8,10 @@ use Rattle.p4_types.specs.declared.events.Start.{Start}
 use Rattle.plane_spec.specs.Config.{Event}
 use Rattle.p4_types.specs.declared.tape.Who.TheVariants.{Worker}
 use Rattle.p4_types.specs.declared.tape.TapeRecord.{TapeRecord}
-use Rattle.switch_spec.specs.Answer.{no_figures, LaneCall, Asks, Leaves, answer}
+use Rattle.switch_spec.specs.Answer.{LaneCall, Asks, Leaves, answer}
 use Rattle.plane_spec.specs.Planes.{Control, applied}
 use Rattle.switch_spec.specs.History.{Made, History, Numbered, own_events, steps_of, expected, answered, refused_for_memory}
-use Rattle.switch_spec.specs.Counts.{Arrival, Carried}
+use Rattle.switch_spec.specs.Counts.{no_figures, Arrival, Carried}
 use Rattle.switch_spec.specs.Meaning as meaning
 use Rattle.switch_spec.specs.Play.{Played, next_call, next_packet, play_call, play_refusal, play_packet, Turn, Answers, Refuses, Carries, call_item, items_of, play}
 use Rattle.switch_spec.specs.Report.{InTurn, IsNext, IsFollowed, Lockstep, from_cpu, packet_out, carried_after}

@@ -29,19 +29,15 @@ use Rattle.role_arbiter.specs.declared.sessions.Session.{Session}
 use Rattle.role_arbiter.specs.Arbitration.{cause, asked, arbitrated, left}
 use Rattle.role_arbiter.specs.State.{session_in}
 use Rattle.role_arbiter.specs.Telling.{told_at_arbitration, told_at_leave}
-use Rattle.plane_spec.specs.Planes.{Control, target, primary, is_of_primary, outcome, change_applied}
+use Rattle.plane_spec.specs.Planes.{Control, target, primary, is_of_primary, outcome, change_applied, outcomes}
 use Rattle.plane_spec.specs.Config.{Event}
 use Rattle.switch_spec.specs.Notices.{standing_notices, unserved_notice}
 use Rattle.switch_spec.specs.Reading.{read_result}
+use Rattle.switch_spec.specs.Counts.{Figures}
+use Rattle.switch_spec.specs.declared.refusals.SetRefusal.{SetRefusal}
+use Rattle.switch_spec.specs.declared.refusals.SetRefusal.TheVariants.{Breaks, Fails}
+use Rattle.switch_spec.specs.Pipelines.{set_result, get_result, rule_status_bytes}
 use Rattle.switch_spec.specs.Status.{status_bytes, no_error, error_of, aborted_error, write_status, capabilities_bytes}
-
--- the packets and bytes that the counter of each slot has counted
-abbrev pub Figures : Type 0
-Figures = ℕ → ℕ × ℕ
-
--- the figures of counters that have counted nothing
-abbrev pub no_figures : Figures
-no_figures slot = (0, 0)
 
 -- a call as its lane brings it: a message with its method, or the end of its stream
 pub data LaneCall : Type 0 where
@@ -88,16 +84,6 @@ write_refusal c request =
     if not (is_some (target c)) then Some codes.FailedPrecondition else
     if not (is_some (atomicity_of request.atomicity)) then Some codes.InvalidArgument else
     if nat_lt 4096 (length request.updates) then Some codes.ResourceExhausted else None
-
--- the state after an update: one that fails leaves it
-abbrev pub state_after : Control → Result Change Cause → Control
-state_after c (Ok change) = change_applied c change
-state_after c (Err cause) = c
-
--- what each update of a list does in the state that the earlier ones left
-abbrev pub outcomes : Control → ℕ → List Update → List (Result Change Cause)
-outcomes c role [] = []
-outcomes c role (update ∷ updates) = outcome c role update ∷ outcomes (state_after c (outcome c role update)) role updates
 
 -- the Error of an update by itself: none where it succeeded
 abbrev pub own_error : Result Change Cause → Error
@@ -154,6 +140,17 @@ abbrev pub read_reply : Result (List (List ℕ)) Code → Answer
 read_reply (Ok messages) = plain codes.Ok messages
 read_reply (Err code) = failed code
 
+-- a call that sets a pipeline: its events, or the code or the rule by which it is refused
+abbrev pub set_reply : Result (List Event) SetRefusal → Answer
+set_reply (Ok list) = record (plain codes.Ok ([] ∷ [])) { events = list }
+set_reply (Err (Breaks rule)) = plain codes.InvalidArgument (rule_status_bytes rule ∷ [])
+set_reply (Err (Fails code)) = failed code
+
+-- a call that gets a pipeline: its one message, or the code with which it is refused
+abbrev pub get_reply : Result (List ℕ) Code → Answer
+get_reply (Ok message) = plain codes.Ok (message ∷ [])
+get_reply (Err code) = failed code
+
 -- a message of the stream channel has no Status
 abbrev pub unreadable : Method → Answer
 unreadable methods.StreamChannel = plain codes.InvalidArgument []
@@ -195,12 +192,12 @@ leave_of (Some session) c lane k =
 abbrev pub leave_answer : Control → ℕ → ℕ → Answer
 leave_answer c lane k = leave_of (session_in c.roles.sessions lane) c lane k
 
--- By what is asked. Pipelines are not served yet. The figures are for a Read of counters, which is not served yet either.
+-- By what is asked. The figures are for a Read of counters, which is not served yet.
 abbrev pub answer_to : Control → Figures → ℕ → ℕ → Call → Answer
 answer_to c g lane k (calls.Write request) = write_answer c lane k request
 answer_to c g lane k (calls.Read request) = read_reply (read_result c request)
-answer_to c g lane k (calls.Set request) = failed codes.Unimplemented
-answer_to c g lane k (calls.Get request) = failed codes.Unimplemented
+answer_to c g lane k (calls.Set request) = set_reply (set_result c lane k request)
+answer_to c g lane k (calls.Get request) = get_reply (get_result c request)
 answer_to c g lane k (calls.Stream message) = stream_answer c lane k message
 answer_to c g lane k calls.Capabilities = plain codes.Ok (capabilities_bytes ∷ [])
 answer_to c g lane k (calls.Unreadable method) = unreadable method

@@ -1,9 +1,10 @@
 pub mod Answer
-pub mod BridgeLaw
+pub mod CountLaws
 pub mod Counts
 pub mod History
 pub mod Meaning
 pub mod Notices
+pub mod Pipelines
 pub mod Play
 pub mod Reading
 pub mod Report

@@ -1,5 +1,5 @@
 -- A run in one pass over the tape.
-use Rattle.std.specs.Prelude.{ℕ, ◌+◌, ◌==◌, List, [], ◌∷◌, ◌++◌, count_by, fold, map}
+use Rattle.std.specs.Prelude.{ℕ, ◌+◌, ◌==◌, List, [], ◌∷◌, ◌++◌, count_by, fold, length, map}
 use Rattle.p4_types.specs.declared.events.Start.{Start}
 use Rattle.p4_types.specs.declared.journal.Entry.{Entry}
 use Rattle.p4_types.specs.declared.journal.Report.{Report}
@@ -7,7 +7,8 @@ use Rattle.p4_types.specs.declared.records.Record.{Record}
 use Rattle.p4_types.specs.declared.tape.TapeRecord.{TapeRecord}
 use Rattle.p4_types.specs.declared.tape.TapeRecord.TheVariants.{Call, Packet, Leave}
 use Rattle.p4_types.specs.declared.tape.Who.TheVariants.{Worker}
-use Rattle.switch_spec.specs.Answer.{no_figures, LaneCall, Asks, Leaves, answer}
+use Rattle.switch_spec.specs.Counts.{Figures, no_figures, figures_after, count_lines, cell_lines}
+use Rattle.switch_spec.specs.Answer.{LaneCall, Asks, Leaves, answer}
 use Rattle.plane_spec.specs.Planes.{Control, opened, applied}
 use Rattle.switch_spec.specs.History.{answered, refused_for_memory}
 use Rattle.switch_spec.specs.Meaning.{carried}
@@ -20,10 +21,12 @@ pub record Played : Type 0 where
   pub steps : ℕ
   pub journal : List Entry
   pub records : List Record
+  -- what the counters have counted
+  pub figures : Figures
 
 -- the run before the first record of the tape
 abbrev pub begun : Start → Played
-begun start = record { control = opened start; steps = 0; journal = []; records = [] }
+begun start = record { control = opened start; steps = 0; journal = []; records = []; figures = no_figures }
 
 -- the number of a controller's next call
 abbrev pub next_call : ℕ → Played → ℕ
@@ -46,7 +49,8 @@ play_call p lane call =
 -- a packet runs through the state as it is
 abbrev pub play_packet : Played → ℕ → ℕ → List ℕ → Played
 play_packet p lane port packet =
-    record p { records = p.records ++ carried (Worker lane) (next_packet lane p) p.steps p.control port packet ∷ [] }
+    let outcome = carried (Worker lane) (next_packet lane p) p.steps p.control port packet in
+    record p { records = p.records ++ outcome ∷ []; figures = figures_after p.figures outcome.hits (length packet) }
 
 -- a call for which there is no memory leaves the state
 abbrev pub play_refusal : Played → ℕ → Played
@@ -91,7 +95,7 @@ answering (Packet lane port packet) = Carries lane port packet
 
 -- what the report shows of it
 abbrev pub played_report : Played → Report
-played_report p = record { journal = p.journal; sent = []; records = p.records; counts = []; cells = [] }
+played_report p = record { journal = p.journal; sent = []; records = p.records; counts = count_lines p.figures p.control.active; cells = cell_lines p.figures p.control.active }
 
 -- The run in one pass gives the report that follows the tape.
 abbrev pub PlayedIsReport : Type 0

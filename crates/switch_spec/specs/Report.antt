@@ -8,11 +8,11 @@ use Rattle.p4_types.specs.declared.tape.TapeRecord.{TapeRecord}
 use Rattle.p4_types.specs.declared.tape.TapeRecord.TheVariants.{Call, Packet, Leave}
 use Rattle.p4_types.specs.declared.tape.Who.{Who}
 use Rattle.p4_types.specs.declared.tape.Who.TheVariants.{Controller, Worker}
-use Rattle.switch_spec.specs.Answer.{no_figures, LaneCall, Asks, Leaves}
+use Rattle.switch_spec.specs.Answer.{LaneCall, Asks, Leaves}
 use Rattle.plane_spec.specs.Config.{Event}
 use Rattle.plane_spec.specs.Legal.{Legal}
 use Rattle.plane_spec.specs.Planes.{Control, opened, applied, after}
-use Rattle.switch_spec.specs.Counts.{Arrival, Carried, counts_in, cells_in}
+use Rattle.switch_spec.specs.Counts.{Arrival, Carried, no_figures, counts_in, cells_in}
 use Rattle.switch_spec.specs.History.{Made, History, Numbered, published, steps_of, is_refused_for_memory}
 use Rattle.switch_spec.specs.Meaning.{carried}
 use Rattle.switch_spec.specs.ReportText.{is_who, records_of, report_text}
@@ -111,7 +111,7 @@ IsFollowed (Some arrival) made (first ∷ records) =
 pub record IsNext (start : Start) (lane : ℕ) (call : LaneCall) (made : Made) (records : List Carried) : Type 0 where
   pub lane_is : made.entry.lane ≡ lane
   pub call_is : made.call ≡ call
-  -- no counter is served yet
+  -- no counter is read yet
   pub counted : made.figures ≡ no_figures
   pub followed : IsFollowed (packet_out start made) made records
 

@@ -110,7 +110,7 @@ sample_word sample = pair_word (decimal sample.digest) (hex_word (p4data_bytes s
 
 -- what a packet hit: a table's entry by its sequence number, or a counter's cell by its slot
 abbrev pub mark_word : HitMark → List ℕ
-mark_word (marks.Entry table seq) = pair_word (decimal table) (decimal seq)
+mark_word (marks.Entry table seq slot) = pair_word (decimal table) (decimal seq)
 mark_word (marks.Cell slot) = codes "@" ++ decimal slot
 
 -- a packet: its lane and number, the steps before it, its fate, what it sent and what it hit

@@ -1,6 +1,6 @@
 //! Laws about the definitions. Each function's contract is the law; its body does nothing.
 ghost use Rattle.switch_spec.specs.Answer.{EventsIgnoreFigures};
-ghost use Rattle.switch_spec.specs.BridgeLaw.{BridgeIsItsProgram, BridgePlanesStay, UpdatesAreTheBridges};
+ghost use Rattle.switch_spec.specs.CountLaws.{CountersKeepRecords};
 ghost use Rattle.switch_spec.specs.Play.{PlayedIsReport};
 ghost use Rattle.switch_spec.specs.Report.{TapeDeterminesReport};
 ghost use Rattle.switch_spec.specs.Rows.{EmptyTape, OneEntryOnePacket, InsertTwice, TableFull, ShortPacket, BackupWaits};
@@ -20,6 +20,11 @@ pub fn events_ignore_figures()
     ensures law { EventsIgnoreFigures }
 {}
 
+/// What slots have counted is what the records of a run's packets say of the entries and cells that have them.
+pub fn counters_keep_records()
+    ensures law { CountersKeepRecords }
+{}
+
 /// Worked runs, with their bytes and texts.
 pub fn worked_runs()
     ensures empty_tape { EmptyTape }
@@ -28,15 +33,4 @@ pub fn worked_runs()
     ensures table_full { TableFull }
     ensures short_packet { ShortPacket }
     ensures backup_waits { BackupWaits }
-{}
-
-/// What becomes of a packet in the bridge's plane is what the bridge's program makes of it.
-pub fn bridge_is_its_program()
-    ensures law { BridgeIsItsProgram }
-{}
-
-/// A plane of the bridge is one of which that holds, in each state of a run.
-pub fn bridge_planes_stay()
-    ensures updates { UpdatesAreTheBridges }
-    ensures planes { BridgePlanesStay }
 {}

@@ -66,7 +66,7 @@ impl AsWord for HitMark {
 
     fn push_word(&self, _alloc: Global, out: &mut String) -> Result<(), AllocError> {
         match *self {
-            HitMark::Entry { table, seq } => write!(out, "{table}:{seq}"),
+            HitMark::Entry { table, seq, .. } => write!(out, "{table}:{seq}"),
             HitMark::Cell { slot } => write!(out, "@{slot}"),
         }
     }

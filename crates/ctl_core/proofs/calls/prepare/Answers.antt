@@ -1,4 +1,4 @@
-use Rattle.switch_spec.specs.Answer.{no_figures}
+use Rattle.switch_spec.specs.Counts.{no_figures}
 use Rattle.ctl_core.proofs.Handling.{may_follow, is_available, still_alive}
 use Rattle.ctl_core.proofs.calls.prepare.Goals as goal
 

@@ -7,7 +7,7 @@ use Rattle.p4switch_run.proofs.session.Session.handle.Goals as goal
 
 pub returns : goal.returns
 returns c =
-    let new : State = record { core = c.handle.new.self; start = c.handle.new.press.start; events = c.handle.new.press.events.items; journal = c.self.inside.journal; records = c.self.inside.packets } in
+    let new : State = record { core = c.handle.new.self; start = c.handle.new.press.start; events = c.handle.new.press.events.items; journal = c.self.inside.journal; records = c.self.inside.packets; totals = c.self.inside.totals } in
     let P : State → Type 0 = λ old. IsHandled c.args.lane c.args.call.now c.handle.result old new in
     let before = subst IsSession (sym c.self.view_is) c.requires.session in
     subst P c.self.view_is (record {
@@ -18,4 +18,5 @@ returns c =
           ∙ still_agrees (is_unavailable c.handle.result.code) (opened c.self.inside.published.start) _ _ _ _ _ _ c.handle.result before.agrees c.handle.ensures.handled;
       journal = refl;
       records = refl;
+      totals = refl;
     })

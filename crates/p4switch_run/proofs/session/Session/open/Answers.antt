@@ -14,4 +14,5 @@ returns-clause-session c = record {
       ap (λ calls. slice_index calls place) c.in_ok-open.ensures.calls
       ∙ tallies_none (λ (lane : ℕ) (entry : Entry). entry.lane == lane) 32 place within
       ∙ ap (count_by (λ (entry : Entry). entry.lane == place)) (sym c.new.ensures);
+  each_counted = c.open-4.ensures.packets ∙ ap length (sym c.open-3.ensures);
 }

@@ -4,5 +4,5 @@ use Rattle.plane_image.proofs.image.Image.apply.Goals as goal
 pub arbitrate-requires-clause-accepted : goal.arbitrate-requires-clause-accepted
 arbitrate-requires-clause-accepted c = accepted _ _ _ (rw c.in-Arbitrate.is at c.requires.may).1
 
-pub save-requires-clause-slots : goal.save-requires-clause-slots
-save-requires-clause-slots c = (rw c.in-Save.is at c.requires.may).2.slots
+pub save_step-requires-clause-slots : goal.save_step-requires-clause-slots
+save_step-requires-clause-slots c = (rw c.in-Save.is at c.requires.may).2.slots

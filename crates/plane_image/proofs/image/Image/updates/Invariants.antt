@@ -1,6 +1,5 @@
 use Rattle.std.proofs.Common.{◌≡◌, ◌++◌, drop, fold}
-use Rattle.plane_spec.specs.Planes.{scope_of}
-use Rattle.switch_spec.specs.Answer.{outcomes, state_after}
+use Rattle.plane_spec.specs.Planes.{scope_of, outcomes, state_after}
 use Rattle.plane_image.proofs.image.Image.updates.Given as goal
 
 abbrev pub invariant-loop-update : goal.invariant-loop-update

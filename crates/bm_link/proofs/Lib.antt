@@ -1,0 +1,3 @@
+pub mod Standing
+pub mod Pushes
+pub mod Answered

@@ -1,0 +1,5 @@
+pub mod Places
+pub mod Operations
+pub mod Sides
+pub mod References
+pub mod Links

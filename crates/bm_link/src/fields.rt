@@ -1,0 +1,225 @@
+//! Headers and fields by their places.
+ghost use Rattle.std.specs.Prelude.{◌≡◌, ◌≤◌, ◌<◌, ◌+◌, ◌^◌, length, is_some, IfOk};
+ghost use Rattle.bm_rules.specs.Names.{named};
+ghost use Rattle.bm_rules.specs.Fields.{fields_of, field_bits, field_by_names};
+ghost use Rattle.link_spec.specs.Fields.{at, header_at, fields_named, fields_before, header_place, field_by, field_at, field_ref, target_at, part_ref};
+ghost use Rattle.bm_link.specs.Places.{AreFirsts};
+
+use crate::index::Index;
+use bm_expr::{FieldPlace, HeaderPlace};
+use bm_pipeline::headers::FieldRef;
+use bm_records::raw::{FieldName, Header, HeaderType, Part, RawField, RawProgram, TypeField};
+use bm_rules::fields::{bits_of, is_validity};
+use bm_rules::names;
+use list_types::{NoMemory, Text};
+use std::alloc::Global;
+
+/// The headers of a program and their types, by their names.
+#[derive(Drop)]
+pub(crate) struct Fields<'a> {
+    pub raw: &'a RawProgram,
+    pub types: Index<'a, HeaderType>,
+    pub headers: Index<'a, Header>,
+    /// How many fields stand before each header, and all.
+    pub firsts: Vec<usize>,
+    ghost of_types: { types ≡ raw.now.header_types },
+    ghost of_headers: { headers ≡ raw.now.headers },
+    ghost counted: { AreFirsts raw.now (length raw.now.headers) firsts.items },
+    ghost room: { fields_before raw.now (length raw.now.headers) < 2 ^ 64 },
+}
+
+/// The fields of a header.
+pub(crate) fn fields_of<'a>(
+    raw: &'a RawProgram,
+    types: &Index<'a, HeaderType>,
+    header: &Header,
+) -> &'a [TypeField]
+    requires { types.now ≡ raw.now.header_types }
+    ensures { result.now ≡ fields_of raw.now header.now }
+{
+    match types.named(&header.header_type) {
+        Some(header_type) => header_type.fields.as_slice(),
+        None => &[],
+    }
+}
+
+// What is counted by a number of the machine is below its limit.
+fn room(raw: &RawProgram, all: usize)
+    requires { all ≡ fields_before raw.now (length raw.now.headers) }
+    ensures { fields_before raw.now (length raw.now.headers) < 2 ^ 64 }
+{}
+
+// Fields that no number counts have no memory either.
+fn firsts_of<'a>(
+    alloc: Global,
+    raw: &'a RawProgram,
+    types: &Index<'a, HeaderType>,
+) -> Result<Vec<usize>, NoMemory>
+    requires { types.now ≡ raw.now.header_types }
+    ensures counted { IfOk result (λ firsts. AreFirsts raw.now (length raw.now.headers) firsts.items) }
+    ensures room { IfOk result (λ _. fields_before raw.now (length raw.now.headers) < 2 ^ 64) }
+{
+    let mut firsts = Vec::new(alloc);
+    let mut first: usize = 0;
+    firsts.push(first)?;
+    for header in raw.headers.as_slice() {
+        let count = fields_of(raw, types, header).len();
+        first = first.checked_add(count).ok_or(NoMemory)?;
+        firsts.push(first)?;
+    }
+    room(raw, first);
+    Ok(firsts)
+}
+
+impl<'a> Fields<'a> {
+    pub(crate) fn of(alloc: Global, raw: &'a RawProgram) -> Result<Fields<'a>, NoMemory>
+        ensures { IfOk result (λ fields. fields.raw.now ≡ raw.now) }
+    {
+        let types = Index::of(alloc, raw.header_types.as_slice())?;
+        let headers = Index::of(alloc, raw.headers.as_slice())?;
+        let firsts = firsts_of(alloc, raw, &types)?;
+        Ok(Fields {
+            raw,
+            types,
+            headers,
+            firsts,
+        })
+    }
+}
+
+/// The place of the header of a name.
+pub(crate) fn header_at(fields: &Fields, name: &str) -> usize
+    ensures place { result ≡ header_at fields.now.raw.now name.now }
+    ensures inside { result ≤ length fields.now.raw.now.headers }
+{
+    match fields.headers.place_at(name) {
+        Some(place) => place,
+        None => 0,
+    }
+}
+
+/// The place of the header that a text names.
+pub(crate) fn header_of(fields: &Fields, name: &Text) -> usize
+    ensures { result ≡ header_at fields.now.raw.now name.now }
+{
+    header_at(fields, name.as_str())
+}
+
+/// The fields of the header of a name.
+fn fields_named<'a>(fields: &Fields<'a>, name: &str) -> &'a [TypeField]
+    ensures { result.now ≡ fields_named fields.now.raw.now name.now }
+{
+    match fields.headers.named_at(name) {
+        Some(header) => fields_of(fields.raw, &fields.types, header),
+        None => &[],
+    }
+}
+
+/// Where the fields of the header of a name stand.
+pub(crate) fn header_place(fields: &Fields, name: &str) -> HeaderPlace
+    ensures { result ≡ header_place fields.now.raw.now name.now }
+{
+    let header = header_at(fields, name);
+    HeaderPlace {
+        header,
+        first: fields.firsts[header],
+        count: fields_named(fields, name).len(),
+    }
+}
+
+/// The same of a header that a text names.
+pub(crate) fn place_of(fields: &Fields, name: &Text) -> HeaderPlace
+    ensures { result ≡ header_place fields.now.raw.now name.now }
+{
+    header_place(fields, name.as_str())
+}
+
+fn bits_among(fields: &[TypeField], name: &str) -> u32
+    ensures { result ≡ field_bits (named (λ field. field.name) name.now fields.now) }
+{
+    match names::named(fields, name) {
+        Some(field) => bits_of(&field.width),
+        None => 0,
+    }
+}
+
+// The place of a field behind the first of its header.
+fn place_behind(fields: &Fields, header: &str, first: usize, place: usize) -> usize
+    requires first { first ≡ fields_before fields.now.raw.now (header_at fields.now.raw.now header.now) }
+    requires place { place < length (fields_named fields.now.raw.now header.now) }
+    ensures { result ≡ first + place }
+{
+    first + place
+}
+
+fn index_of(fields: &Fields, header: &str, field: &str) -> usize
+    ensures { result ≡ fields_before fields.now.raw.now (header_at fields.now.raw.now header.now) + at (λ field. field.name) field.now (fields_named fields.now.raw.now header.now) }
+{
+    let first = fields.firsts[header_at(fields, header)];
+    match names::place_of(fields_named(fields, header), field) {
+        Some(place) => place_behind(fields, header, first, place),
+        None => first,
+    }
+}
+
+/// The place of the field of the names of its header and of itself.
+#[tactic(auto, using(crate::proofs::Standing::bits_named))]
+pub(crate) fn field_by(fields: &Fields, header: &str, field: &str) -> FieldPlace
+    ensures { result ≡ field_by fields.now.raw.now header.now field.now }
+{
+    FieldPlace {
+        index: index_of(fields, header, field),
+        header: header_at(fields, header),
+        width: bits_among(fields_named(fields, header), field),
+    }
+}
+
+/// Whether there is a field of the names of its header and of itself.
+#[tactic(auto, using(crate::proofs::Standing::field_named))]
+pub(crate) fn has_field(fields: &Fields, header: &str, field: &str) -> bool
+    ensures { result ≡ is_some (field_by_names fields.now.raw.now header.now field.now) }
+{
+    names::named(fields_named(fields, header), field).is_some()
+}
+
+/// The place of the field of both names together.
+pub(crate) fn field_at(fields: &Fields, name: &FieldName) -> FieldPlace
+    ensures { result ≡ field_at fields.now.raw.now name.now }
+{
+    field_by(fields, name.header.as_str(), name.field.as_str())
+}
+
+/// What is read as a field.
+pub(crate) fn field_ref(fields: &Fields, name: &FieldName) -> FieldRef
+    ensures { result ≡ field_ref fields.now.raw.now name.now }
+{
+    if is_validity(name) {
+        FieldRef::Valid(header_of(fields, &name.header))
+    } else {
+        FieldRef::Field(field_at(fields, name))
+    }
+}
+
+/// The place of a field that is written.
+pub(crate) fn target_at(fields: &Fields, name: &RawField) -> FieldPlace
+    ensures { result ≡ target_at fields.now.raw.now name.now }
+{
+    match name {
+        Part::Served(name) => field_at(fields, name),
+        Part::LeftOut => FieldPlace {
+            index: 0,
+            header: 0,
+            width: 0,
+        },
+    }
+}
+
+/// What is read as a field, of a name that is served.
+pub(crate) fn part_ref(fields: &Fields, name: &RawField) -> FieldRef
+    ensures { result ≡ part_ref fields.now.raw.now name.now }
+{
+    match name {
+        Part::Served(name) => field_ref(fields, name),
+        Part::LeftOut => FieldRef::Valid(0),
+    }
+}

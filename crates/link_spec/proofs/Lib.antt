@@ -1,0 +1,14 @@
+pub mod Tests
+pub mod Found
+pub mod Headers
+pub mod Fields
+pub mod Expressions
+pub mod Packets
+pub mod Actions
+pub mod Tables
+pub mod Paths
+pub mod StateLoops
+pub mod NodeLoops
+pub mod Kept
+pub mod Valid
+pub mod Meant

@@ -1,0 +1,3 @@
+pub mod CellSteps
+pub mod Counted
+pub mod Sorting

@@ -1,0 +1,12 @@
+//! What the counters of all slots have counted, and the lines of a report that are made of it.
+#![tactic(auto)]
+
+mod cells;
+mod counting;
+mod entries;
+mod figure;
+mod totals;
+
+pub use cells::cell_lines;
+pub use entries::count_lines;
+pub use totals::Totals;
