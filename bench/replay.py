@@ -40,9 +40,9 @@ def tape(records):
     return records - calls, calls, b"".join(out)
 
 
-def run(program, data):
+def run(program, data, words=("replay", "--lockstep", "--bridge")):
     before = time.monotonic()
-    child = subprocess.Popen([program, "replay", "--lockstep", "--bridge"], stdin=subprocess.PIPE, stdout=subprocess.DEVNULL, stderr=subprocess.DEVNULL)
+    child = subprocess.Popen([program, *words], stdin=subprocess.PIPE, stdout=subprocess.DEVNULL, stderr=subprocess.DEVNULL)
     child.stdin.write(data)
     child.stdin.close()
     _, status, usage = os.wait4(child.pid, 0)

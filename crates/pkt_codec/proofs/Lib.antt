@@ -1,3 +1,5 @@
+mod EightBytes
+mod LaidBits
 pub mod Extracts
 pub mod Inside
 pub mod Keys

@@ -4,13 +4,13 @@ use Rattle.std.proofs.lemmas.List.{drop_more, get_or-take, get_or-drop, length-d
 use Rattle.std.proofs.lemmas.List.Sums.{sum_by-cons, sum_by_more_le}
 use Rattle.std.proofs.lemmas.Nat.{shr_split}
 use Rattle.std.proofs.Math.Nat.{mod-eq_of_lt}
-use Rattle.std.proofs.Math.Seq.{set-append_seam, take-append_seam, take-length}
+use Rattle.std.proofs.Math.Seq.{set-append_seam, take-length}
 use Rattle.std.specs.List.{splice, slice_range}
 use Rattle.std.proofs.lemmas.Grind.{flat_map-append}
 use Rattle.canon_bytes.specs.Bits.{byte_bits, bits, num}
 use Rattle.pkt_bits.specs.Field.{field, number_bits}
 use Rattle.pkt_bits.proofs.Low.{low-cat, length-low}
-use Rattle.pkt_bits.proofs.Pieces.{field-lt, length-bits}
+use Rattle.pkt_bits.proofs.Pieces.{field-lt, field_fits, length-bits}
 use Rattle.program_spec.specs.Numbers.{runs}
 use Rattle.program_spec.specs.Deparsing.{laid}
 
@@ -58,7 +58,7 @@ field_read xs first k widths bytes bit width value lt within width_is bit_is val
     ∙ ap (λ v. splice xs first (first + (k + 1)) (runs (take k widths) (bits bytes) ++ v ∷ [])) (whole ∙ one)
     ∙ ap (splice xs first (first + (k + 1))) (sym (runs_suc widths (bits bytes) k lt) ∙ ap (λ n. runs (take n widths) (bits bytes)) next)
 
-laid_suc : (widths numbers : List ℕ) (k : ℕ) → k < length widths → k < length numbers
+pub laid_suc : (widths numbers : List ℕ) (k : ℕ) → k < length widths → k < length numbers
     → laid (take (suc k) widths) (take (suc k) numbers) ≡ laid (take k widths) (take k numbers) ++ number_bits (get_or widths k 0) (get_or numbers k 0)
 laid_suc [] numbers k lt less = absurd (omega arith)
 laid_suc (w ∷ widths) [] k lt less = absurd (omega arith)
@@ -76,22 +76,17 @@ pub bits_of_cut : (width number : ℕ) → number_bits width (number % 2 ^ width
 bits_of_cut width number =
     sym (low-cat width width (number / 2 ^ width) (number % 2 ^ width) (omega arith)) ∙ ap (number_bits width) (shr_split number width)
 
--- one field more of a header is written
-pub field_laid : (widths numbers old new : List ℕ) (k bit width number : ℕ) → k < length widths → k < length numbers → bit ≤ length old
-    → width ≡ get_or widths k 0 → number ≡ get_or numbers k 0 → new ≡ splice old bit (bit + width) (number_bits width (number % 2 ^ width))
-    → take bit old ≡ laid (take k widths) (take k numbers)
-    → take (bit + width) new ≡ laid (take (k + 1) widths) (take (k + 1) numbers)
-field_laid widths numbers old new k bit width number lt less within width_is number_is new_is so_far =
-    let before : length (take bit old) ≡ bit = length-take-le bit old within in
-    let long : length (number_bits width (number % 2 ^ width)) ≡ width = length-low width (number % 2 ^ width) in
-    let end : length (take bit old ++ number_bits width (number % 2 ^ width)) ≡ bit + width = length-append (take bit old) (number_bits width (number % 2 ^ width)) ∙ omega arith in
+-- what is read of a field needs no cut
+pub uncut : (bytes : List ℕ) (bit width value : ℕ) → width ≤ 128 → value ≡ field bytes bit width → value % 2 ^ 128 ≡ value % 2 ^ width
+uncut bytes bit width value le is = mod-eq_of_lt (rw is (field_fits bytes bit width le)) ∙ sym (mod-eq_of_lt (rw is (field-lt bytes bit width)))
+
+-- one number more of a header is laid
+pub laid_more : (widths numbers bs : List ℕ) (k width number : ℕ) → k < length widths → k < length numbers → width ≡ get_or widths k 0 → number ≡ get_or numbers k 0
+    → bs ≡ laid (take k widths) (take k numbers) → bs ++ number_bits width number ≡ laid (take (k + 1) widths) (take (k + 1) numbers)
+laid_more widths numbers bs k width number lt less width_is number_is so_far =
     let next : suc k ≡ k + 1 = omega arith in
-    ap (take (bit + width)) new_is
-    ∙ ap (take (bit + width)) (sym (append_assoc (take bit old) (number_bits width (number % 2 ^ width)) (drop (bit + width) old)))
-    ∙ ap (λ n. take n (take bit old ++ number_bits width (number % 2 ^ width) ++ drop (bit + width) old)) (sym end)
-    ∙ take-append_seam (take bit old ++ number_bits width (number % 2 ^ width)) (drop (bit + width) old)
-    ∙ ap (λ xs. xs ++ number_bits width (number % 2 ^ width)) so_far
-    ∙ ap (λ xs. laid (take k widths) (take k numbers) ++ xs) (bits_of_cut width number ∙ ap (λ w. number_bits w number) width_is ∙ ap (number_bits (get_or widths k 0)) number_is)
+    ap (λ xs. xs ++ number_bits width number) so_far
+    ∙ ap (λ xs. laid (take k widths) (take k numbers) ++ xs) (ap (λ w. number_bits w number) width_is ∙ ap (number_bits (get_or widths k 0)) number_is)
     ∙ sym (laid_suc widths numbers k lt less)
     ∙ ap (λ n. laid (take n widths) (take n numbers)) next
 

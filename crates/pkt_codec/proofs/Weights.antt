@@ -64,7 +64,7 @@ weighed_part p r size number whole =
     weighed-word (number_bits size number) p r (omega (arith, long)) ∙ ap (λ n. n * 2 ^ r) (number-low 0 size number ∙ omega arith)
 
 -- the bits of a number in two parts
-bits_split : (a b number : ℕ) → number_bits (a + b) number ≡ number_bits a (number / 2 ^ b) ++ number_bits b number
+pub bits_split : (a b number : ℕ) → number_bits (a + b) number ≡ number_bits a (number / 2 ^ b) ++ number_bits b number
 bits_split a b number =
     let xs = number_bits (a + b) number in
     sym (take-append-drop a xs) ∙ ap (λ ys. ys ++ drop a xs) (take-low a b (a + b) number refl) ∙ ap (λ ys. number_bits a (number / 2 ^ b) ++ ys) (drop-low a b (a + b) number refl)

@@ -1,3 +1,4 @@
+pub mod Laid
 pub mod Room
 pub mod Steps
 pub mod Sums

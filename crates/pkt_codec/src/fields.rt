@@ -7,9 +7,10 @@ ghost use Rattle.bm_pipeline.specs.Validity.{IsHeader};
 ghost use Rattle.program_spec.specs.Numbers.{runs};
 ghost use Rattle.program_spec.specs.Deparsing.{laid, numbers_of};
 
-use bm_expr::{FieldPlace, Store, cut};
+use crate::eights::take_near;
+use crate::laying;
+use bm_expr::{FieldPlace, Store};
 use bm_pipeline::headers::Header;
-use pkt_bits::{put, take};
 
 /// Reads a header's fields from the first bits of these bytes.
 pub(crate) fn read_fields(header: &Header, bytes: &[u8], store: &mut Store)
@@ -26,12 +27,13 @@ pub(crate) fn read_fields(header: &Header, bytes: &[u8], store: &mut Store)
     let mut bit = 0;
     let mut index = header.place.first;
     for width in header.widths.as_slice() {
+        // A field of 128 bits has room for each number: what is read needs no cut.
         let place = FieldPlace {
             index,
             header: header.place.header,
-            width: *width,
+            width: 128,
         };
-        store.set_field(place, take(bytes, bit, *width));
+        store.set_field(place, take_near(bytes, bit, *width));
         index += 1;
         bit += *width as usize;
     }
@@ -49,9 +51,7 @@ pub(crate) fn write_fields(header: &Header, store: &Store, bytes: &mut [u8])
 {
     // Its number bounds that of each bit.
     let _bits = header.bits;
-    // Its number bounds that of each bit.
-    let _bits = header.bits;
-    let mut bit = 0;
+    let mut laid = laying::begun();
     let mut index = header.place.first;
     for width in header.widths.as_slice() {
         let place = FieldPlace {
@@ -59,10 +59,10 @@ pub(crate) fn write_fields(header: &Header, store: &Store, bytes: &mut [u8])
             header: header.place.header,
             width: *width,
         };
-        put(bytes, bit, *width, cut(store.field(place), *width));
+        laid = laying::lay(laid, *width, store.field(place), bytes);
         index += 1;
-        bit += *width as usize;
     }
+    laying::write(laid, bytes);
 }
 
 /// Writes a valid header of whole bytes behind the first `at` bytes, which stay.

@@ -2,9 +2,11 @@
 #![tactic(auto)]
 
 mod deparsing;
+mod eights;
 mod entering;
 mod fields;
 mod headers;
+mod laying;
 mod ones;
 mod packet_buf;
 mod parsing;

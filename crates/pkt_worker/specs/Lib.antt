@@ -1,4 +1,5 @@
 pub mod Hits
 pub mod Headers
+pub mod Scratches
 pub mod Slots
 pub mod Verdicts

@@ -1,8 +1,8 @@
 //! One packet through a plane.
-ghost use Rattle.std.specs.Prelude.{◌≡◌, ℕ, ◌≤◌, [], drop, length, Some, None, Option, IfSome};
+ghost use Rattle.std.specs.Prelude.{◌≡◌, ℕ, ◌≤◌, [], drop, length, Some, None, Option, IfSome, IfOk};
 ghost use Rattle.std.specs.Option.{option_map};
 ghost use Rattle.canon_bytes.specs.Bits.{bits};
-ghost use Rattle.bm_expr.specs.Store.{Contents};
+ghost use Rattle.bm_expr.specs.Store.{Contents, cleared};
 ghost use Rattle.bm_pipeline.specs.Validity.{IsLearnList, IsNode};
 ghost use Rattle.packet_spec.specs.Meaning as spec;
 ghost use Rattle.program_spec.specs.Parsing as parsing;
@@ -25,6 +25,7 @@ use p4_types::records::DropReason;
 use pkt_codec::{enter, parse, update_sums, verify_sums};
 use plane_state::Plane;
 use std::alloc::Global;
+use std::marker::Model;
 
 /// The port from which nothing leaves.
 const DROP_PORT: u16 = 511;
@@ -36,9 +37,19 @@ pub struct Scratch {
     marks: Marks,
 }
 
+impl Model for Scratch {
+    ghost use Rattle.pkt_worker.specs.Scratches.{Kept};
+
+    ghost Value = { Kept };
+
+    ghost view = { λ scratch. record { store = scratch.store; marks = scratch.marks } };
+}
+
 impl Scratch {
-    /// Takes all the memory that packets need.
-    pub fn open(alloc: Global) -> Result<Scratch, NoMemory> {
+    /// Takes all the memory that packets need. Its store has no field and no header yet, and nothing is marked.
+    pub fn open(alloc: Global) -> Result<Scratch, NoMemory>
+        ensures { IfOk result (λ scratch. scratch ≡ record { store = cleared 0 0; marks = record { counted = []; learned = None } }) }
+    {
         Ok(Scratch {
             store: Store::open(alloc, 0, 0)?,
             marks: Marks::open(alloc)?,

@@ -1,0 +1,52 @@
+#!/usr/bin/env python3
+"""packets.py [PROGRAM] [N]
+
+Times `PROGRAM replay --lockstep` (default: the built program) over N packets of 34 bytes (default: 999,000) through the
+router of examples/programs with four routes, and through the built-in bridge with four entries, and prints the time a
+packet, less that of the same tape with a tenth of the packets, the router's beside the bridge's, and the peak memory
+beside the tape's bytes. A tape has at most 1,000,000 records. The time a packet has the reading of the tape and its line of the report in it, which are about the same
+in both. Times and memory are of this machine; the ratio is what to quote.
+"""
+import os
+import sys
+
+from calls import tape, write
+from pipelines import ARBITRATE, VERIFY_AND_COMMIT, put, routes
+from replay import TOP, record, run
+from stages import router
+
+HEAD = bytes([2, 0, 0, 0, 0, 10, 2, 0, 0, 0, 0, 1, 8, 0, 0x45, 0, 0, 20, 0, 0, 0, 0, 64, 1, 0, 0, 10, 0, 0, 1])
+
+
+def routed(count):
+    """Packets to the four routes in turn."""
+    return [record(2, i % 16, b"\x00\x01" + HEAD + bytes([10, 0, i % 4, 1])) for i in range(count)]
+
+
+def bridged(count):
+    """Packets to the four addresses in turn."""
+    return [record(2, i % 16, b"\x00\x01" + bytes([0, 0, 0, 0, 0, 2 + i % 4]) + HEAD[6:] + bytes(4)) for i in range(count)]
+
+
+def main():
+    words = sys.argv[1:]
+    program = os.path.join(TOP, "crates/p4switch/out/p4switch")
+    if words and not words[0].isdigit():
+        program = words.pop(0)
+    count = int(words[0]) if words else 999000
+    config = router()
+    kinds = [("router", [ARBITRATE, put(VERIFY_AND_COMMIT, config), routes(config, 4)], routed, ("replay", "--lockstep")),
+             ("bridge", [write(1, address, 2) for address in range(2, 6)], bridged, ("replay", "--lockstep", "--bridge"))]
+    each = {}
+    for name, calls, packets, asked in kinds:
+        few, status, _ = run(program, tape(calls + packets(count // 10)), asked)
+        data = tape(calls + packets(count))
+        all_of_them, status_of_all, peak = run(program, data, asked)
+        each[name] = (all_of_them - few) / (count - count // 10)
+        print("%s: %d packets, status %d, %.2f s, %.0f ns a packet, peak %.0f MB, the tape %.1f MB"
+              % (name, count, status or status_of_all, all_of_them, each[name] * 1e9, peak / 1024, len(data) / 2**20), flush=True)
+    print("a packet of the router takes %.2f times one of the bridge" % (each["router"] / each["bridge"]))
+
+
+if __name__ == "__main__":
+    main()
