@@ -1,11 +1,14 @@
 -- Sequence numbers of a store that is filled.
-use Rattle.std.proofs.Common.{◌≡◌, ℕ, ◌+◌, ◌<◌, List, All, Result, Ok, Err, OnOk, OnErr, sym, subst, arith}
+use Rattle.std.proofs.Common.{◌≡◌, ℕ, ◌+◌, ◌<◌, List, All, Option, Some, None, Result, Ok, Err, OnOk, OnErr, sym, subst, arith}
 use Rattle.std.proofs.lemmas.List.Elements.{All-filter, All-append, All-cons, All-weaker}
 use Rattle.p4_types.specs.declared.info.Table.{Table}
 use Rattle.p4_types.specs.declared.table.Entry.{Entry}
 use Rattle.p4_types.specs.declared.table.EntryChange.{EntryChange}
 use Rattle.p4_types.specs.declared.table.Room.{Room}
 use Rattle.plane_spec.specs.Entries.{new_entry, next_number, inserted}
+use Rattle.plane_spec.specs.Objects.{table_of}
+use Rattle.plane_spec.specs.Planes.{Plane}
+use Rattle.plane_state.specs.Versions.{insert_after}
 
 -- an entry's number is below
 abbrev Below : ℕ → Entry → Type 0
@@ -29,3 +32,16 @@ pub below_put : {A B : Type 0} (r : Result A B) (n : ℕ) (table : Table) (room 
     → All (Below (1 + n)) old → OnOk r (new ≡ inserted (new_entry table room change) old) → OnErr r (new ≡ old) → All (Below (2 + n)) new
 below_put (Ok x) n table room change old new is h ok err = let P : List Entry → Type 0 = All (Below (2 + n)) in subst P (sym ok) (below_inserted n table room change old is h)
 below_put (Err e) n table room change old new is h ok err = let P : List Entry → Type 0 = All (Below (2 + n)) in subst P (sym err) (weaker n old h)
+
+below_after : (o : Option Table) (n : ℕ) (room : Room) (plane : Plane) (change : EntryChange) → next_number room ≡ 1 + n → All (Below (1 + n)) plane.entries
+    → All (Below (2 + n)) (insert_after o room plane change).entries
+below_after None n room plane change is h = weaker n plane.entries h
+below_after (Some table) n room plane change is h = below_inserted n table room change plane.entries is h
+
+-- so it is in a plane
+pub below_plane : {A B : Type 0} (r : Result A B) (n : ℕ) (room : Room) (old new : Plane) (change : EntryChange) → next_number room ≡ 1 + n
+    → All (Below (1 + n)) old.entries → OnOk r (new ≡ insert_after (table_of change.name.table old.config.info) room old change) → OnErr r (new ≡ old) → All (Below (2 + n)) new.entries
+below_plane (Ok x) n room old new change is h ok err =
+    let P : Plane → Type 0 = λ plane. All (Below (2 + n)) plane.entries in
+    subst P (sym ok) (below_after (table_of change.name.table old.config.info) n room old change is h)
+below_plane (Err e) n room old new change is h ok err = let P : Plane → Type 0 = λ plane. All (Below (2 + n)) plane.entries in subst P (sym err) (weaker n old.entries h)
