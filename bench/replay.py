@@ -40,13 +40,25 @@ def tape(records):
     return records - calls, calls, b"".join(out)
 
 
+def peak_of(pid):
+    """The peak of a process's own memory so far, in kB. What wait4 tells counts this script's memory too, from before the program began."""
+    try:
+        with open("/proc/%d/status" % pid) as told:
+            return max((int(line.split()[1]) for line in told if line.startswith("VmHWM:")), default=0)
+    except FileNotFoundError:
+        return 0
+
+
 def run(program, data, words=("replay", "--lockstep", "--bridge")):
     before = time.monotonic()
     child = subprocess.Popen([program, *words], stdin=subprocess.PIPE, stdout=subprocess.DEVNULL, stderr=subprocess.DEVNULL)
     child.stdin.write(data)
     child.stdin.close()
-    _, status, usage = os.wait4(child.pid, 0)
-    return time.monotonic() - before, os.waitstatus_to_exitcode(status), usage.ru_maxrss
+    peak = 0
+    while child.poll() is None:
+        peak = max(peak, peak_of(child.pid))
+        time.sleep(0.0005)
+    return time.monotonic() - before, child.returncode, peak
 
 
 def main():
