@@ -96,7 +96,7 @@ fn tell_room(alloc: Global, info: &P4Info, change: &EntryChange, room: Room, tol
         say(told, "no table ");
         return;
     };
-    match TableStore::open(alloc).insert_cause(table, &change.name, room) {
+    match TableStore::open(alloc).insert_cause(table, &change.name, 1, room) {
         Some(cause) => tell_cause(told, cause),
         None => say(told, "room "),
     }
@@ -111,15 +111,16 @@ fn room(rows: u32, slots: u32, numbers: u64) -> Room {
 }
 
 fn tell_rooms(alloc: Global, info: &P4Info, update: &Update, told: &mut String) {
-    match resolve(info, None, update) {
-        Ok(Change::InsertEntry(change)) => {
+    match resolve(alloc, info, None, update) {
+        Ok(Ok(Change::InsertEntry(change))) => {
             tell_room(alloc, info, &change, room(1, 1, 1), told);
             tell_room(alloc, info, &change, room(0, 1, 1), told);
             tell_room(alloc, info, &change, room(1, 0, 1), told);
             tell_room(alloc, info, &change, room(1, 1, 0), told);
         }
-        Ok(_) => say(told, "another change "),
-        Err(cause) => tell_cause(told, cause),
+        Ok(Ok(_)) => say(told, "another change "),
+        Ok(Err(cause)) => tell_cause(told, cause),
+        Err(NoMemory) => say(told, "no memory "),
     }
 }
 

@@ -279,12 +279,12 @@ pub const TERNARY: [Row<'static>; 15] = [
     (
         "an entry of a table with a profile",
         "08011a021001221808011214121208928080101207080112030a01051a021801",
-        "rule 2 12 none none none ",
+        "ok none none none ",
     ),
     (
         "a member",
         "08011a021001221c080112181a1608818080880110011a0c0891808008220510011a0101",
-        "rule 2 12 none none none ",
+        "profile none none none ",
     ),
 ];
 

@@ -120,6 +120,14 @@ fn change(
             say(told, "default ");
             drawn
         }
+        Change::Profile(_) => {
+            say(told, "profile ");
+            drawn
+        }
+        Change::Digest(_) => {
+            say(told, "digest ");
+            drawn
+        }
     }
 }
 
@@ -135,10 +143,14 @@ fn update(
     requires below { All (λ entry. entry.seq < 1 + drawn) store.old.entries }
     ensures below { All (λ entry. entry.seq < 1 + result) store.new.entries }
 {
-    match resolve(info, scope, update) {
-        Ok(change) => self::change(alloc, info, store, &change, drawn, told),
-        Err(cause) => {
+    match resolve(alloc, info, scope, update) {
+        Ok(Ok(change)) => self::change(alloc, info, store, &change, drawn, told),
+        Ok(Err(cause)) => {
             tell_cause(told, cause);
+            drawn
+        }
+        Err(NoMemory) => {
+            say(told, "no memory ");
             drawn
         }
     }
@@ -173,13 +185,17 @@ pub(crate) fn tell_entry(told: &mut String, entry: Option<&Entry>) {
                 tell(told, *argument);
             }
         }
-        EntryAction::Member(id) => {
+        EntryAction::Member { id, .. } => {
             say(told, "member ");
             tell(told, *id);
         }
-        EntryAction::Group(id) => {
+        EntryAction::Group { id, .. } => {
             say(told, "group ");
             tell(told, *id);
+        }
+        EntryAction::Set { calls, .. } => {
+            say(told, "set of ");
+            tell(told, calls.get().as_slice().len());
         }
     }
 }

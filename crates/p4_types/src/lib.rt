@@ -10,6 +10,7 @@ pub mod journal;
 pub mod keys;
 pub mod messages;
 pub mod p4info;
+pub mod profiles;
 pub mod records;
 pub mod shared;
 pub mod table;

@@ -1,7 +1,12 @@
-//! The entries of a table, and the changes that updates make. They are values that take no memory.
-ghost use Rattle.std.specs.Prelude.{◌≡◌};
+//! The entries of a table, and the changes that updates make. They are values that take no memory of their own: the calls
+//! of a one-shot set and the members of a group are shared.
+ghost use Rattle.std.specs.Prelude.{◌≡◌, IfOk};
 
 use crate::keys::{Arguments, Tests};
+use crate::messages::DigestEntry;
+use crate::profiles::ProfileChange;
+use crate::shared::Shared;
+use list_types::{List, NoMemory};
 
 /// An action with its arguments, in the order of the action's parameters.
 #[derive(Drop)]
@@ -21,24 +26,54 @@ impl ActionCall {
     }
 }
 
-/// What an entry does where it is hit: it runs an action, or leaves the choice to a member or a group of its table's
-/// action profile, by its id.
+/// An action of a one-shot set, with its share of the set's weights.
+#[derive(Drop)]
+pub struct WeightedCall {
+    pub call: ActionCall,
+    pub weight: u32,
+}
+
+/// What an entry does where it is hit: it runs an action; or it leaves the choice to a member or a group of its table's
+/// action profile, by its id, or to a set of actions of its own under that profile (P4Runtime 1.3.0, "One Shot Action
+/// Selector Programming").
 #[derive(Drop)]
 pub enum EntryAction {
     Call(ActionCall),
-    Member(u32),
-    Group(u32),
+    Member {
+        profile: u32,
+        id: u32,
+    },
+    Group {
+        profile: u32,
+        id: u32,
+    },
+    Set {
+        profile: u32,
+        calls: Shared<List<WeightedCall>>,
+    },
 }
 
 impl EntryAction {
-    pub fn copy(&self) -> EntryAction
-        ensures { result ≡ self.now }
+    /// The same, which shares the calls of a set and takes no memory; refused only where they have too many owners to be
+    /// counted.
+    pub fn share(&self) -> Result<EntryAction, NoMemory>
+        ensures { IfOk result (λ action. action ≡ self.now) }
     {
-        match self {
+        Ok(match self {
             EntryAction::Call(call) => EntryAction::Call(call.copy()),
-            EntryAction::Member(id) => EntryAction::Member(*id),
-            EntryAction::Group(id) => EntryAction::Group(*id),
-        }
+            EntryAction::Member { profile, id } => EntryAction::Member {
+                profile: *profile,
+                id: *id,
+            },
+            EntryAction::Group { profile, id } => EntryAction::Group {
+                profile: *profile,
+                id: *id,
+            },
+            EntryAction::Set { profile, calls } => EntryAction::Set {
+                profile: *profile,
+                calls: calls.share()?,
+            },
+        })
     }
 }
 
@@ -97,6 +132,14 @@ pub enum UpdateKind {
     Delete,
 }
 
+/// What an update of a digest entry changes.
+#[derive(Clone, Copy)]
+pub enum DigestChange {
+    Insert(DigestEntry),
+    Modify(DigestEntry),
+    Delete(u32),
+}
+
 /// What an update changes.
 #[derive(Drop)]
 pub enum Change {
@@ -108,6 +151,8 @@ pub enum Change {
         table: u32,
         action: Option<ActionCall>,
     },
+    Profile(ProfileChange),
+    Digest(DigestChange),
 }
 
 /// What is left to be drawn: rows, slots of counters, and sequence numbers, of which the next is the

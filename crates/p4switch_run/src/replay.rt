@@ -1,9 +1,11 @@
 //! A tape is read, run and reported.
 ghost use Rattle.std.specs.Prelude.{◌≡◌, ◌≤◌, IfOk, length, All};
 ghost use Rattle.switch_spec.specs.Tape.{IsRecord};
+ghost use Rattle.switch_spec.specs.Play.{begun};
+ghost use Rattle.p4switch_run.specs.Session.{played_of, IsSession};
 ghost use Rattle.p4switch_run.specs.Replay.{Answers, IsTextOf, streams};
 
-use crate::session::play_all;
+use crate::session::{Session, play_each};
 use crate::status::Status;
 use list_types::{ByteList, NoMemory};
 use p4_types::events::Start;
@@ -11,14 +13,35 @@ use std::alloc::Global;
 use sw_edge::{Sent, Sink, Source};
 use tape_form::{Tape, TapeFault, TapeRecord};
 
+// The report's text of the run of these records by a session that has begun.
+fn text_by(
+    alloc: Global,
+    start: Start,
+    items: &[TapeRecord],
+    session: &mut Session,
+) -> Result<ByteList, NoMemory>
+    requires each { All IsRecord items.now }
+    requires number { length items.now ≤ 1000000 }
+    requires begun { played_of session.old ≡ begun start }
+    requires session { IsSession session.old }
+    ensures { IfOk result (IsTextOf start items.now) }
+{
+    play_each(alloc, start, items, session)?;
+    let report = session.finish(alloc)?;
+    tape_form::report_text(alloc, &report)
+}
+
 // The report's text of a run of these records.
 fn text_of(alloc: Global, start: Start, items: &[TapeRecord]) -> Result<ByteList, NoMemory>
     requires each { All IsRecord items.now }
     requires number { length items.now ≤ 1000000 }
     ensures { IfOk result (IsTextOf start items.now) }
 {
-    let report = play_all(alloc, start, items)?.finish(alloc)?;
-    tape_form::report_text(alloc, &report)
+    let mut session = Session::open(alloc, start)?;
+    let text = text_by(alloc, start, items, &mut session);
+    // where it went out of scope by itself, all that it owns would be part of this proof
+    drop(session);
+    text
 }
 
 /// Runs the tape that the source gives, and writes its report when all of it is made.

@@ -23,6 +23,7 @@ use plane_image::Image;
 use slot_totals::Totals;
 use std::alloc::Global;
 use std::marker::Model;
+use std::mem;
 
 /// The run so far: the control of the switch, the events that it handed on, the calls and the packets.
 #[derive(Drop)]
@@ -124,14 +125,17 @@ impl Session {
         ensures played { IfOk result (λ s. played_of s ≡ begun start) }
         ensures session { IfOk result IsSession }
     {
+        let scratch = Scratch::open(alloc)?;
+        let verdict = Verdict::open(alloc)?;
+        let control = Control::open(alloc, &start)?;
         Ok(Session {
-            control: Control::open(alloc, &start)?,
+            control,
             published: Published::open(alloc, start),
             journal: List::new(alloc),
             packets: Packets::open(alloc),
             totals: Totals::open(alloc),
-            scratch: Scratch::open(alloc)?,
-            verdict: Verdict::open(alloc)?,
+            scratch,
+            verdict,
         })
     }
 
@@ -276,32 +280,40 @@ impl Session {
         }
     }
 
-    /// What the report shows of the run.
-    pub fn finish(self, alloc: Global) -> Result<Report, NoMemory>
-        ensures { IfOk result (λ report. report ≡ played_report (played_of self)) }
+    /// What the report shows of the run, whose journal and records it takes.
+    pub fn finish(&mut self, alloc: Global) -> Result<Report, NoMemory>
+        ensures { IfOk result (λ report. report ≡ played_report (played_of self.old)) }
     {
         let plane = self.control.image().active();
         let counts = slot_totals::count_lines(alloc, plane, &self.totals)?;
         let cells = slot_totals::cell_lines(alloc, plane, &self.totals)?;
+        let journal = mem::replace(&mut self.journal, List::new(alloc));
+        let packets = mem::replace(&mut self.packets, Packets::open(alloc));
         Ok(Report {
-            journal: self.journal,
+            journal,
             sent: List::new(alloc),
-            records: self.packets.into_list(),
+            records: packets.into_list(),
             counts,
             cells,
         })
     }
 }
 
-/// The run of these records, in their order.
-pub fn play_all(alloc: Global, start: Start, items: &[TapeRecord]) -> Result<Session, NoMemory>
+/// Takes each of these records, in their order.
+pub(crate) fn play_each(
+    alloc: Global,
+    start: Start,
+    items: &[TapeRecord],
+    session: &mut Session,
+) -> Result<(), NoMemory>
     requires each { All IsRecord items.now }
     requires number { length items.now ≤ 1000000 }
-    ensures { IfOk result (λ session. IsPlayed start items.now (played_of session)) }
+    requires begun { played_of session.old ≡ begun start }
+    requires session { IsSession session.old }
+    ensures { OnOk result (IsPlayed start items.now (played_of session.new)) }
 {
-    let mut session = Session::open(alloc, start)?;
     for item in items {
         session.take(alloc, item)?;
     }
-    Ok(session)
+    Ok(())
 }

@@ -19,10 +19,9 @@ use Rattle.bm_pipeline.specs.Validity.{IsValid}
 use Rattle.p4_types.specs.declared.table.ActionCall.{ActionCall}
 use Rattle.p4_types.specs.declared.table.DefaultAction.{DefaultAction}
 use Rattle.p4_types.specs.declared.table.Entry.{Entry}
-use Rattle.packet_spec.specs.Choosing.{Called, found, acts, takes, is_of_id, called_with, called, called_if, default_called, miss_by, miss_called, entry_call, profile_in, fnv, selector_bytes}
+use Rattle.packet_spec.specs.Choosing.{Called, found, acts, takes, is_of_id, called_with, called, called_if, default_called, miss_by, miss_called, entry_call, fnv, selector_bytes}
 use Rattle.packet_spec.specs.Walking.{Walk, named_or, next_of_call, next_of_outcome, table_done, conditional_done, node_done, Walks, walk_from}
 use Rattle.packet_spec.specs.Laws.{WalkEnds, WalkIsOne}
-use Rattle.plane_spec.specs.Objects.{table_of}
 use Rattle.plane_spec.specs.Planes.{Plane, default_in}
 
 left_fails : (a b : Bool) → (a || b) ≡ false → a ≡ false
@@ -106,7 +105,7 @@ acts_quiet : (passes : Node → Bool) (plane : Plane) (table : Table) (entry : O
 unfolding acts
 acts_quiet passes plane table None store actions default = miss_quiet passes plane table table.id actions default
 acts_quiet passes plane table (Some entry) store actions default =
-    called_if_quiet passes plane table (entry_call (profile_in (table_of entry.name.table plane.config.info)) plane (fnv (selector_bytes store table.selector)) entry.action) actions
+    called_if_quiet passes plane table (entry_call plane (fnv (selector_bytes store table.selector)) entry.action) actions
 
 alone : (passes : Node → Bool) (node : Node) → list_any passes (node ∷ []) ≡ false → passes node ≡ false
 alone passes node none = left_fails (passes node) false none

@@ -1,6 +1,6 @@
 -- The worked packets, computed.
 use Rattle.std.proofs.Common.{refl}
-use Rattle.packet_spec.specs.Worked.{RouterForwards, RouterDrops, RouterWraps, LabLearns, LabTakesFirst, GroupChoosesFirst, GroupChoosesSecond, ShortFrameLeaves, ControllerIsTold, ControllerHeaderTooShort, LongerLeaves, LongestLeaves, TooLongIsDropped}
+use Rattle.packet_spec.specs.Worked.{RouterForwards, RouterDrops, RouterWraps, LabLearns, LabTakesFirst, GroupChoosesFirst, GroupChoosesSecond, SetChoosesSecond, ShortFrameLeaves, ControllerIsTold, ControllerHeaderTooShort, LongerLeaves, LongestLeaves, TooLongIsDropped}
 use Rattle.packet_spec.specs.Meaning.{meaning}
 use Rattle.packet_spec.specs.Choosing.{found, acts, fnv, selector_bytes}
 use Rattle.packet_spec.specs.Programs.{router, lab}
@@ -40,6 +40,10 @@ group_chooses_first = refl
 pub group_chooses_second : GroupChoosesSecond
 unfolding meaning found acts fnv selector_bytes router lab bridge_program bridge_info best action_done csum16 sums_verified sums_updated deparsed parse taken bits num canon
 group_chooses_second = refl
+
+pub set_chooses_second : SetChoosesSecond
+unfolding meaning found acts fnv selector_bytes router lab bridge_program bridge_info best action_done csum16 sums_verified sums_updated deparsed parse taken bits num canon
+set_chooses_second = refl
 
 pub short_frame_leaves : ShortFrameLeaves
 unfolding meaning found acts fnv selector_bytes router lab bridge_program bridge_info best action_done csum16 sums_verified sums_updated deparsed parse taken bits num canon

@@ -1,5 +1,5 @@
 -- Which action a table runs (P4Runtime 1.3.0, "Table Entry", "ActionProfileMember & ActionProfileGroup"; the choice among members: this project's profile, by 32-bit FNV-1a).
-use Rattle.std.specs.Prelude.{ℕ, ◌-◌, ◌*◌, ◌%◌, ◌^◌, ◌==◌, nat_lt, bit_xor, if◌then◌else◌, Bool, false, List, [], ◌∷◌, fold, find, length, map, sum_by, slice_get, Option, Some, None, unwrap_or}
+use Rattle.std.specs.Prelude.{ℕ, ◌-◌, ◌*◌, ◌%◌, ◌^◌, ◌==◌, nat_lt, bit_xor, if◌then◌else◌, Bool, false, List, [], ◌∷◌, fold, find, length, map, sum_by, slice_get, Option, Some, None}
 use Rattle.std.specs.List.{flat_map}
 use Rattle.bm_expr.specs.Store.{Contents}
 use Rattle.bm_pipeline.specs.declared.actions.Action.{Action}
@@ -8,17 +8,19 @@ use Rattle.bm_pipeline.specs.declared.tables.DefaultEntry.{DefaultEntry}
 use Rattle.bm_pipeline.specs.declared.tables.Table.{Table}
 use Rattle.bm_pipeline.specs.declared.tables.TableAction.{TableAction}
 use Rattle.bm_pipeline.specs.Places.{width_of, whole_bytes}
-use Rattle.p4_types.specs.declared.info.Table as info_tables
+use Rattle.p4_types.specs.declared.profiles.Group.{Group}
+use Rattle.p4_types.specs.declared.profiles.Member.{Member}
+use Rattle.p4_types.specs.declared.profiles.Share.{Share}
 use Rattle.p4_types.specs.declared.table.ActionCall.{ActionCall}
 use Rattle.p4_types.specs.declared.table.DefaultAction.{DefaultAction}
 use Rattle.p4_types.specs.declared.table.Entry.{Entry}
 use Rattle.p4_types.specs.declared.table.EntryAction.{EntryAction}
 use Rattle.p4_types.specs.declared.table.EntryAction.TheVariants as entry_actions
+use Rattle.p4_types.specs.declared.table.WeightedCall.{WeightedCall}
 use Rattle.pkt_bits.specs.Field.{number_bits}
 use Rattle.plane_spec.specs.Entries.{best}
-use Rattle.plane_spec.specs.Objects.{table_of}
 use Rattle.plane_spec.specs.Planes.{Plane, default_in}
-use Rattle.plane_spec.specs.Profiles.{Member, Share, Group, member_of, group_of}
+use Rattle.plane_spec.specs.Profiles.{member_of, group_of}
 use Rattle.program_spec.specs.Numbers.{bytes_of}
 use Rattle.program_spec.specs.Stores.{read}
 
@@ -96,47 +98,44 @@ field_bytes store field = bytes_of (number_bits (8 * whole_bytes (width_of field
 unfoldable pub selector_bytes : Contents → List FieldRef → List ℕ
 selector_bytes store fields = flat_map (field_bytes store) fields
 
--- the member into whose share of the weights a number falls
-abbrev pub share_at : ℕ → List Share → Option ℕ
-share_at number [] = None
-share_at number (share ∷ others) = if nat_lt number share.weight then Some share.member else share_at (number - share.weight) others
+-- the item into whose share of the weights a number falls
+abbrev pub item_at : {A : Type 0} → (A → ℕ) → ℕ → List A → Option A
+item_at weight number [] = None
+item_at weight number (item ∷ others) = if nat_lt number (weight item) then Some item else item_at weight (number - weight item) others
 
--- the member that a hash chooses; without any weight none is
-abbrev pub chosen : ℕ → List Share → Option ℕ
-chosen hash shares = if sum_by (λ share. share.weight) shares == 0 then None else share_at (hash % sum_by (λ share. share.weight) shares) shares
+-- the item that a hash chooses by its weight, in their order; without any weight none is
+abbrev pub chosen : {A : Type 0} → (A → ℕ) → ℕ → List A → Option A
+chosen weight hash list = if sum_by weight list == 0 then None else item_at weight (hash % sum_by weight list) list
 
 -- the action of a member, if there is one
 abbrev pub call_of : Option Member → Option ActionCall
 call_of None = None
 call_of (Some member) = Some member.call
 
--- the action of the member of this id, if there is one
-abbrev pub member_call : ℕ → Plane → Option ℕ → Option ActionCall
-member_call profile plane None = None
-member_call profile plane (Some id) = call_of (member_of profile id plane.members)
+-- the action of the member that a share of a group is of, if there is one
+abbrev pub share_call : ℕ → Plane → Option Share → Option ActionCall
+share_call profile plane None = None
+share_call profile plane (Some share) = call_of (member_of profile share.member plane.members)
 
 -- the action that a group chooses
-abbrev pub group_call : ℕ → Plane → ℕ → Option Group → Option ActionCall
-group_call profile plane hash None = None
-group_call profile plane hash (Some group) = member_call profile plane (chosen hash group.shares)
+abbrev pub group_call : Plane → ℕ → Option Group → Option ActionCall
+group_call plane hash None = None
+group_call plane hash (Some group) = share_call group.profile plane (chosen (λ share. share.weight) hash group.shares)
 
--- the action that an entry runs, in a table of this profile
-abbrev pub entry_call : ℕ → Plane → ℕ → EntryAction → Option ActionCall
-entry_call profile plane hash (entry_actions.Call call) = Some call
-entry_call profile plane hash (entry_actions.Member id) = member_call profile plane (Some id)
-entry_call profile plane hash (entry_actions.Group id) = group_call profile plane hash (group_of profile id plane.groups)
+-- the action of a one-shot set, if there is one
+abbrev pub weighted_call : Option WeightedCall → Option ActionCall
+weighted_call None = None
+weighted_call (Some action) = Some action.call
 
--- the action profile of a table; ids begin at 1, so that 0 names none
-abbrev pub profile_in : Option info_tables.Table → ℕ
-profile_in None = 0
-profile_in (Some table) = unwrap_or table.action_profile 0
-
--- the action profile of the table of an entry
-abbrev pub profile_of : Entry → Plane → ℕ
-profile_of entry plane = profile_in (table_of entry.name.table plane.config.info)
+-- the action that an entry runs: its own, its member's, or the one that a hash chooses of its group or set
+abbrev pub entry_call : Plane → ℕ → EntryAction → Option ActionCall
+entry_call plane hash (entry_actions.Call call) = Some call
+entry_call plane hash (entry_actions.Member profile id) = call_of (member_of profile id plane.members)
+entry_call plane hash (entry_actions.Group profile id) = group_call plane hash (group_of profile id plane.groups)
+entry_call plane hash (entry_actions.Set profile calls) = weighted_call (chosen (λ action. action.weight) hash calls)
 
 -- what a table runs, with what it found and this store
 unfoldable pub acts : Plane → Table → Option Entry → Contents → Option Called
 acts plane table None store = miss_called plane table table.id
 acts plane table (Some entry) store =
-    called_if plane table (entry_call (profile_of entry plane) plane (fnv (selector_bytes store table.selector)) entry.action)
+    called_if plane table (entry_call plane (fnv (selector_bytes store table.selector)) entry.action)

@@ -100,7 +100,7 @@ LabTakesFirst = meaning (Some lab_ternary) cpu 1 (0xaa ∷ 0 ∷ 0 ∷ 0 ∷ [])
 -- a group of two members with weights 1 and 3
 abbrev pub lab_group : Plane
 lab_group = record (made_plane 0 (configured (record no_objects { tables = ecmp_info ∷ [] }) lab)) {
-  entries = entry_of 0x02000012 (tests.Equal 5) 0 1 (entry_actions.Group 1) ∷ [];
+  entries = entry_of 0x02000012 (tests.Equal 5) 0 1 (entry_actions.Group 0x11000001 1) ∷ [];
   members = (record { profile = 0x11000001; id = 1; call = call_of 0x01000011 (1 ∷ []) }) ∷ (record { profile = 0x11000001; id = 2; call = call_of 0x01000011 (2 ∷ []) }) ∷ [];
   groups = (record { profile = 0x11000001; id = 1; shares = (record { member = 1; weight = 1 }) ∷ (record { member = 2; weight = 3 }) ∷ [] }) ∷ [];
 }
@@ -112,6 +112,17 @@ GroupChoosesFirst = meaning (Some lab_group) cpu 1 (0xaa ∷ 5 ∷ 0 ∷ 3 ∷ [
 -- one with the remainder 1 leaves by the second
 abbrev pub GroupChoosesSecond : Type 0
 GroupChoosesSecond = meaning (Some lab_group) cpu 1 (0xaa ∷ 5 ∷ 0 ∷ 0 ∷ []) ≡ record (sent_at 2 (0xaa ∷ 5 ∷ 0 ∷ 0 ∷ [])) { hits = marks.Entry 0x02000012 1 None ∷ [] }
+
+-- a one-shot set of the same actions and weights
+abbrev pub lab_set : Plane
+lab_set = record (made_plane 0 (configured (record no_objects { tables = ecmp_info ∷ [] }) lab)) {
+  entries = entry_of 0x02000012 (tests.Equal 5) 0 1 (entry_actions.Set 0x11000001
+      ((record { call = call_of 0x01000011 (1 ∷ []); weight = 1 }) ∷ (record { call = call_of 0x01000011 (2 ∷ []); weight = 3 }) ∷ [])) ∷ [];
+}
+
+-- chooses as the group does
+abbrev pub SetChoosesSecond : Type 0
+SetChoosesSecond = meaning (Some lab_set) cpu 1 (0xaa ∷ 5 ∷ 0 ∷ 0 ∷ []) ≡ record (sent_at 2 (0xaa ∷ 5 ∷ 0 ∷ 0 ∷ [])) { hits = marks.Entry 0x02000012 1 None ∷ [] }
 
 -- ---- the bridge
 

@@ -1,6 +1,6 @@
 //! Laws about packets in planes. Each function's contract is the law; its body does nothing.
 ghost use Rattle.packet_spec.specs.Laws.{WalkEnds, WalkIsOne, NoNodeTwice, DroppedSendsNothing, LeavesWithinLimit, HitsAreThere};
-ghost use Rattle.packet_spec.specs.Worked.{RouterForwards, RouterDrops, RouterWraps, LabLearns, LabTakesFirst, GroupChoosesFirst, GroupChoosesSecond, ShortFrameLeaves, ControllerIsTold, ControllerHeaderTooShort, LongerLeaves, LongestLeaves, TooLongIsDropped};
+ghost use Rattle.packet_spec.specs.Worked.{RouterForwards, RouterDrops, RouterWraps, LabLearns, LabTakesFirst, GroupChoosesFirst, GroupChoosesSecond, SetChoosesSecond, ShortFrameLeaves, ControllerIsTold, ControllerHeaderTooShort, LongerLeaves, LongestLeaves, TooLongIsDropped};
 
 /// A walk through the tables of a valid program ends, in one way alone, and comes to no node twice.
 pub fn walks_end_in_one_way()
@@ -29,6 +29,7 @@ pub fn worked_packets()
     ensures lab_takes_first { LabTakesFirst }
     ensures group_chooses_first { GroupChoosesFirst }
     ensures group_chooses_second { GroupChoosesSecond }
+    ensures set_chooses_second { SetChoosesSecond }
     ensures short_frame_leaves { ShortFrameLeaves }
     ensures controller_is_told { ControllerIsTold }
     ensures controller_header_too_short { ControllerHeaderTooShort }

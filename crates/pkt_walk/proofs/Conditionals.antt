@@ -1,5 +1,6 @@
 -- What a conditional does.
-use Rattle.std.proofs.Common.{◌≡◌, ◌∙◌, sym, ap, subst, ℕ, cond, List, [], ◌∷◌, ◌++◌, refl, Option, Some, None}
+use Rattle.std.proofs.Common.{◌≡◌, ◌∙◌, sym, ap, subst, ℕ, cond, List, [], ◌++◌, refl, Option, Some, None}
+use Rattle.std.proofs.lemmas.List.{append-nil}
 use Rattle.std.specs.Prelude.{slice_get}
 use Rattle.act_exec.specs.Marks.{Marked}
 use Rattle.bm_expr.specs.Meaning.{truth_value, TruthInStore}
@@ -20,12 +21,8 @@ use Rattle.plane_spec.specs.Planes.{Plane}
 pub asked_in : (program : Program) (store : Contents) (conditional : Conditional) → HasRoom program store → IsConditional program conditional → TruthInStore store [] conditional.expression
 asked_in program store conditional room is = condition_in program store room (Some conditional.expression) is.expression
 
-ends_with_nothing : (hits : List HitMark) → hits ++ [] ≡ hits
-ends_with_nothing [] = refl
-ends_with_nothing (hit ∷ hits) = ap (λ others. hit ∷ others) (ends_with_nothing hits)
-
 nothing_more : (hits : List HitMark) → hits ++ [] ++ [] ≡ hits
-nothing_more hits = ends_with_nothing (hits ++ []) ∙ ends_with_nothing hits
+nothing_more hits = append-nil (hits ++ []) ∙ append-nil hits
 
 -- a conditional leads on by what holds, and hits nothing
 pub leads_on : (plane : Plane) (place : ℕ) (store : Contents) (before after : Marked) (conditional : Conditional) (next : Option Node)

@@ -1,1 +1,2 @@
 pub mod Conditionals
+pub mod NumberBytes

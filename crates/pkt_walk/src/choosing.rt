@@ -5,12 +5,13 @@ ghost use Rattle.pkt_codec.specs.Room.{IsInStore};
 ghost use Rattle.packet_spec.specs.Choosing as spec;
 ghost use Rattle.pkt_walk.specs.Calls.{called_of, TakesCall};
 
+use crate::entries::entry_call;
 use crate::key::Key;
 use bm_expr::Store;
 use bm_pipeline::actions::Action;
 use bm_pipeline::program::Program;
 use bm_pipeline::tables::{DefaultEntry, Table, TableAction};
-use p4_types::table::{ActionCall, Entry, EntryAction};
+use p4_types::table::{ActionCall, Entry};
 use plane_state::Plane;
 
 /// An action that a table runs, with its data.
@@ -113,21 +114,19 @@ fn miss_called<'a>(plane: &'a Plane, table: &'a Table) -> Option<Call<'a>>
     }
 }
 
-// What an entry runs. No member and no group is written yet.
+// What an entry runs.
 fn entry_called<'a>(
-    plane: &Plane,
+    plane: &'a Plane,
     table: &Table,
     entry: &'a Entry,
     store: &Store,
 ) -> Option<Call<'a>>
-    ensures called { called_of result ≡ spec.called_if plane.now.now table.now (spec.entry_call (spec.profile_of entry.now plane.now.now) plane.now.now (spec.fnv (spec.selector_bytes store.now table.now.selector)) entry.now.action) }
+    requires in_store { All (IsInStore store.now) table.now.selector }
+    ensures called { called_of result ≡ spec.called_if plane.now.now table.now (spec.entry_call plane.now.now (spec.fnv (spec.selector_bytes store.now table.now.selector)) entry.now.action) }
     ensures taken { IfSome result (TakesCall plane.now.now) }
 {
-    plane.has_entries_alone();
-    match &entry.action {
-        EntryAction::Call(call) => called(plane, table, call),
-        EntryAction::Member(_) | EntryAction::Group(_) => None,
-    }
+    let call = entry_call(plane, table.selector.as_slice(), &entry.action, store)?;
+    called(plane, table, call)
 }
 
 /// What a table runs, with what it found.
@@ -138,6 +137,7 @@ pub(crate) fn acts<'a>(
     entry: Option<&'a Entry>,
     store: &Store,
 ) -> Option<Call<'a>>
+    requires in_store { All (IsInStore store.now) table.now.selector }
     ensures called { called_of result ≡ spec.acts plane.now.now table.now (option_map (λ e. e.now) entry.entry) store.now }
     ensures taken { IfSome result (TakesCall plane.now.now) }
 {

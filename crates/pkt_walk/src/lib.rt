@@ -2,7 +2,10 @@
 #![tactic(auto)]
 
 mod choosing;
+mod entries;
+mod hashing;
 mod key;
 mod walking;
+mod weights;
 
 pub use walking::{Turn, run_node};

@@ -133,13 +133,11 @@ fn choose_port(
     leave(plane, cpu, port, rest, store, out);
 }
 
-// Whether a digest is told of. No digest entry is written yet.
+// Whether a digest is told of: it has an entry.
 fn is_told(plane: &Plane, digest: u32) -> bool
     ensures { result ≡ spec.is_told digest plane.now.now }
 {
-    plane.has_entries_alone();
-    let _ = digest;
-    false
+    plane.digest(digest).is_some()
 }
 
 fn learn_list_at(plane: &Plane, place: Option<usize>) -> Option<&LearnList>

@@ -1,9 +1,9 @@
 -- The image at the start is numbered.
-use Rattle.std.proofs.Common.{◌≡◌, ℕ, Bool, true, false, if◌then◌else◌, Option, Some, None, refl, arith}
+use Rattle.std.proofs.Common.{◌≡◌, ℕ, Bool, true, false, if◌then◌else◌, Some, None, refl, arith}
 use Rattle.std.proofs.lemmas.List.Elements.{All-nil}
 use Rattle.plane_spec.specs.Bridge.{bridge_config, bridge_info}
 use Rattle.plane_spec.specs.Config.{cells_in}
-use Rattle.plane_spec.specs.Planes.{Plane, made_plane}
+use Rattle.plane_spec.specs.Planes.{made_plane}
 use Rattle.role_arbiter.specs.State.{RolesState}
 use Rattle.plane_image.specs.Image.{IsNumbered, control_of}
 

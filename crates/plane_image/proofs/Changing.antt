@@ -8,7 +8,7 @@ use Rattle.p4_types.specs.declared.table.EntryChange.{EntryChange}
 use Rattle.p4_types.specs.declared.table.Room.{Room}
 use Rattle.plane_spec.specs.Objects.{table_of}
 use Rattle.plane_spec.specs.Planes.{Control, Plane, target, room_of, change_cause, cause_in, inserted_in, changed, changed_unless, changed_in, change_applied}
-use Rattle.plane_state.specs.declared.plane.Drawn.{Drawn}
+use Rattle.plane_state.specs.declared.parts.Drawn.{Drawn}
 use Rattle.plane_state.specs.Versions.{insert_after, plane_after, drawn_by_insert, drawn_by}
 use Rattle.role_arbiter.specs.State.{RolesState}
 use Rattle.plane_image.specs.Image.{control_of, after_in, drawn_in}
@@ -39,6 +39,8 @@ change_staged (changes.InsertEntry change) device cpu rows roles active plane ne
 change_staged (changes.ModifyEntry change) device cpu rows roles active plane next slot closed = none_drawn_staged (control_of device cpu rows roles active (Some plane) next slot closed) _
 change_staged (changes.DeleteEntry name) device cpu rows roles active plane next slot closed = none_drawn_staged (control_of device cpu rows roles active (Some plane) next slot closed) _
 change_staged (changes.ModifyDefault table action) device cpu rows roles active plane next slot closed = none_drawn_staged (control_of device cpu rows roles active (Some plane) next slot closed) _
+change_staged (changes.Profile change) device cpu rows roles active plane next slot closed = none_drawn_staged (control_of device cpu rows roles active (Some plane) next slot closed) _
+change_staged (changes.Digest change) device cpu rows roles active plane next slot closed = none_drawn_staged (control_of device cpu rows roles active (Some plane) next slot closed) _
 
 insert_active : (o : Option Table) (device cpu rows : ℕ) (roles : RolesState) (plane : Plane) (next slot : ℕ) (closed : Bool) (change : EntryChange)
     → let c = control_of device cpu rows roles (Some plane) None next slot closed in
@@ -53,6 +55,8 @@ change_active (changes.InsertEntry change) device cpu rows roles plane next slot
 change_active (changes.ModifyEntry change) device cpu rows roles plane next slot closed = none_drawn_active (control_of device cpu rows roles (Some plane) None next slot closed) _
 change_active (changes.DeleteEntry name) device cpu rows roles plane next slot closed = none_drawn_active (control_of device cpu rows roles (Some plane) None next slot closed) _
 change_active (changes.ModifyDefault table action) device cpu rows roles plane next slot closed = none_drawn_active (control_of device cpu rows roles (Some plane) None next slot closed) _
+change_active (changes.Profile change) device cpu rows roles plane next slot closed = none_drawn_active (control_of device cpu rows roles (Some plane) None next slot closed) _
+change_active (changes.Digest change) device cpu rows roles plane next slot closed = none_drawn_active (control_of device cpu rows roles (Some plane) None next slot closed) _
 
 -- the staged plane is changed
 pub staged_changed : (device cpu rows : ℕ) (roles : RolesState) (active staged : Option Plane) (next slot : ℕ) (closed : Bool) (change : Change) (room : Room) (after : Option Plane) (drawn : Drawn)

@@ -4,3 +4,4 @@ pub mod Numbering
 pub mod AtFirst
 pub mod Outcomes
 pub mod Scoping
+pub mod Taking

@@ -2,18 +2,21 @@
 use Rattle.std.proofs.Common.{◌≡◌, ℕ, ◌+◌, ◌-◌, ◌^◌, ◌<◌, ◌≤◌, ◌||◌, Bool, true, false, cond, List, All, Option, Some, None, is_some, nat_lt, refl, ap, sym, subst, arith}
 use Rattle.std.proofs.lemmas.Bool.Decides.{nat_tests}
 use Rattle.std.proofs.lemmas.List.Elements.{All-filter, All-map, All-append, All-cons, All-weaker}
-use Rattle.p4_types.specs.declared.code.Cause.{Cause}
 use Rattle.p4_types.specs.declared.info.Table.{Table}
+use Rattle.p4_types.specs.declared.profiles.ProfileChange.{ProfileChange}
+use Rattle.p4_types.specs.declared.profiles.ProfileChange.TheVariants as profile_changes
 use Rattle.p4_types.specs.declared.table.Change.{Change}
 use Rattle.p4_types.specs.declared.table.Change.TheVariants as changes
 use Rattle.p4_types.specs.declared.table.Entry.{Entry}
 use Rattle.p4_types.specs.declared.table.EntryChange.{EntryChange}
 use Rattle.p4_types.specs.declared.table.EntryName.{EntryName}
 use Rattle.p4_types.specs.declared.table.Room.{Room}
-use Rattle.plane_spec.specs.Entries.{is_full, table_size, entries_of, entry_named, slots_drawn, insert_cause, new_entry, next_number, inserted, modified, deleted, with_change, same_name}
+use Rattle.plane_spec.specs.Entries.{is_full, table_size, entries_of, entry_named, slots_drawn, new_entry, next_number, inserted, modified, deleted, with_change, same_name}
 use Rattle.plane_spec.specs.Objects.{table_of}
-use Rattle.plane_spec.specs.Planes.{Plane, room_of, insert_cause_in, change_cause, cause_in}
-use Rattle.plane_state.specs.declared.plane.Drawn.{Drawn}
+use Rattle.plane_spec.specs.Planes.{Plane, room_of, if_present, if_in_use, lacks_use, set_exceeds, insert_cause_in, change_cause, cause_in, profile_changed}
+use Rattle.plane_spec.specs.Profiles.{entry_rows}
+use Rattle.plane_spec.proofs.ChangedProfiles.{no_cause, not_broken, neither}
+use Rattle.plane_state.specs.declared.parts.Drawn.{Drawn}
 use Rattle.role_arbiter.specs.State.{RolesState}
 use Rattle.plane_state.specs.Versions.{insert_after, plane_after, drawn_by_insert, drawn_by}
 use Rattle.plane_image.specs.Image.{BelowIn, CellsBelowIn, IsNumbered, control_of, after_in, drawn_in}
@@ -36,11 +39,6 @@ not_full false false true d h = absurd (cc)
 not_full false true c d h = absurd (cc)
 not_full true b c d h = absurd (cc)
 
-no_cause : (a b : Bool) (x y : Cause) → (cond a (Some x) (cond b (Some y) None)) ≡ None → b ≡ false
-no_cause false false x y h = refl
-no_cause false true x y h = absurd (cc)
-no_cause true b x y h = absurd (cc)
-
 not_lower : (m n : ℕ) → nat_lt m n ≡ false → n ≤ m
 not_lower m n h = grind (arith, nat_tests)
 
@@ -49,11 +47,13 @@ pub record HasLeft (room : Room) (table : Table) : Type 0 where
   pub numbers : 1 ≤ room.numbers
   pub slots : slots_drawn table ≤ room.slots
 
-has_left : (table : Table) (room : Room) (name : EntryName) (entries : List Entry) → insert_cause table room name entries ≡ None → HasLeft room table
-unfolding insert_cause
-has_left table room name entries none =
-    let full : is_full table room entries ≡ false = no_cause (is_some (entry_named name entries)) (is_full table room entries) _ _ none in
-    let parts = not_full (nat_lt (table_size table) (entries_of table entries + 1)) (nat_lt room.rows 1) (nat_lt room.slots (slots_drawn table)) (nat_lt room.numbers 1) full in
+has_left : (table : Table) (room : Room) (plane : Plane) (change : EntryChange) → insert_cause_in (Some table) room plane change ≡ None → HasLeft room table
+has_left table room plane change none =
+    let needed : ℕ = entry_rows change.action in
+    let present = no_cause (if_present (is_some (entry_named change.name plane.entries))) _ none in
+    let used = no_cause (if_in_use (lacks_use plane change.action)) _ present.1 in
+    let free = neither (is_full table needed room plane.entries) (set_exceeds plane None change.action) (not_broken _ _ _ used.1) in
+    let parts = not_full (nat_lt (table_size table) (entries_of table plane.entries + 1)) (nat_lt room.rows needed) (nat_lt room.slots (slots_drawn table)) (nat_lt room.numbers 1) free.0 in
     record { numbers = not_lower room.numbers 1 parts.1; slots = not_lower room.slots (slots_drawn table) parts.0 }
 
 -- what a change draws is left
@@ -68,7 +68,7 @@ left_by_insert : (o : Option Table) (room : Room) (plane : Plane) (change : Entr
     → insert_cause_in o room plane change ≡ None → IsLeft next slot (drawn_by_insert o).numbers (drawn_by_insert o).slots
 left_by_insert None room plane change next slot few low numbers slots none = nothing_drawn next slot few low
 left_by_insert (Some table) room plane change next slot few low numbers slots none =
-    let left = has_left table room change.name plane.entries none in
+    let left = has_left table room plane change none in
     record { numbers = omega (arith, left.numbers, numbers, few); slots = omega (arith, left.slots, slots, low) }
 
 left_by : (change : Change) (room : Room) (plane : Plane) (next slot : ℕ) → next ≤ 2 ^ 64 - 1 → slot ≤ 1048576 → room.numbers ≡ 2 ^ 64 - 1 - next → room.slots ≡ 1048576 - slot
@@ -77,11 +77,22 @@ left_by (changes.InsertEntry change) room plane next slot few low numbers slots 
 left_by (changes.ModifyEntry change) room plane next slot few low numbers slots none = nothing_drawn next slot few low
 left_by (changes.DeleteEntry name) room plane next slot few low numbers slots none = nothing_drawn next slot few low
 left_by (changes.ModifyDefault table action) room plane next slot few low numbers slots none = nothing_drawn next slot few low
+left_by (changes.Profile change) room plane next slot few low numbers slots none = nothing_drawn next slot few low
+left_by (changes.Digest change) room plane next slot few low numbers slots none = nothing_drawn next slot few low
 
 pub left_in : (o : Option Plane) (change : Change) (room : Room) (next slot : ℕ) → next ≤ 2 ^ 64 - 1 → slot ≤ 1048576 → room.numbers ≡ 2 ^ 64 - 1 - next → room.slots ≡ 1048576 - slot
     → cause_in o room change ≡ None → IsLeft next slot (drawn_in o change).numbers (drawn_in o change).slots
 left_in None change room next slot few low numbers slots none = nothing_drawn next slot few low
 left_in (Some plane) change room next slot few low numbers slots none = left_by change room plane next slot few low numbers slots none
+
+-- a change of a member or a group leaves all else of a plane
+profile_apart : (change : ProfileChange) (plane : Plane) → profile_changed plane change ≡ record plane { members = (profile_changed plane change).members; groups = (profile_changed plane change).groups }
+profile_apart (profile_changes.InsertMember member) plane = refl
+profile_apart (profile_changes.ModifyMember member) plane = refl
+profile_apart (profile_changes.DeleteMember profile id) plane = refl
+profile_apart (profile_changes.InsertGroup group) plane = refl
+profile_apart (profile_changes.ModifyGroup group) plane = refl
+profile_apart (profile_changes.DeleteGroup profile id) plane = refl
 
 -- the entries after a change have drawn their numbers
 below_inserted : (next : ℕ) (entry : Entry) (entries : List Entry) → entry.seq < next + 1 → All (Below next) entries → All (Below (next + 1)) (inserted entry entries)
@@ -119,6 +130,8 @@ below_after (changes.InsertEntry change) room plane next own h = below_insert (t
 below_after (changes.ModifyEntry change) room plane next own h = with_none next _ (below_modified next change plane.entries h)
 below_after (changes.DeleteEntry name) room plane next own h = with_none next _ (below_deleted next name plane.entries h)
 below_after (changes.ModifyDefault table action) room plane next own h = with_none next plane.entries h
+below_after (changes.Profile change) room plane next own h = subst (λ (p : Plane). All (Below (next + 0)) p.entries) (sym (profile_apart change plane)) (with_none next plane.entries h)
+below_after (changes.Digest change) room plane next own h = with_none next plane.entries h
 
 pub below_in_after : (o : Option Plane) (change : Change) (room : Room) (next : ℕ) → next_number room < next + 1 → BelowIn next o → BelowIn (next + (drawn_in o change).numbers) (after_in o room change)
 below_in_after None change room next own h = tt
@@ -142,6 +155,8 @@ cells_after (changes.InsertEntry change) room plane next h = cells_insert (table
 cells_after (changes.ModifyEntry change) room plane next h = h
 cells_after (changes.DeleteEntry name) room plane next h = h
 cells_after (changes.ModifyDefault table action) room plane next h = h
+cells_after (changes.Profile change) room plane next h = subst (λ (p : Plane). CellsBelowIn next (Some p)) (sym (profile_apart change plane)) h
+cells_after (changes.Digest change) room plane next h = h
 
 pub cells_in_after : (o : Option Plane) (change : Change) (room : Room) (next : ℕ) → CellsBelowIn next o → CellsBelowIn (next + (drawn_in o change).slots) (after_in o room change)
 cells_in_after None change room next h = tt

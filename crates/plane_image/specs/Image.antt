@@ -9,8 +9,8 @@ use Rattle.p4_types.specs.declared.table.Change.{Change}
 use Rattle.p4_types.specs.declared.table.Room.{Room}
 use Rattle.plane_spec.specs.Config.{Event, cells_in}
 use Rattle.plane_spec.specs.Planes.{Control, Plane, target, scope_of}
-use Rattle.plane_spec.specs.UpdateRules.{resolution}
-use Rattle.plane_state.specs.declared.plane.Drawn.{Drawn}
+use Rattle.plane_spec.specs.Updates.{resolution}
+use Rattle.plane_state.specs.declared.parts.Drawn.{Drawn}
 use Rattle.plane_state.specs.Versions.{PlaneVersions, plane_after, drawn_by}
 use Rattle.role_arbiter.specs.State.{RolesState}
 
@@ -26,6 +26,10 @@ pub record PlanesVersions : Type 0 where
   pub staged : Option Plane
   pub former_active : Option Plane
   pub former_staged : Option Plane
+
+-- both as they were before
+abbrev pub undone : PlanesVersions → PlanesVersions
+undone planes = record { active = planes.former_active; staged = planes.former_staged; former_active = planes.former_active; former_staged = planes.former_staged }
 
 -- the control state from its parts
 abbrev pub control_of : (device cpu rows : ℕ) → RolesState → (active staged : Option Plane) → (next next_slot : ℕ) → Bool → Control

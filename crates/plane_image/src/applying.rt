@@ -2,9 +2,10 @@
 ghost use Rattle.std.specs.Prelude.{◌≡◌, ◌≤◌, ◌+◌, ◌^◌, ◌-◌, min, false, true, OnOk, OnErr, fold};
 ghost use Rattle.plane_spec.specs.Config.{cells_in};
 ghost use Rattle.plane_spec.specs.Entries.{slot_limit};
-ghost use Rattle.plane_spec.specs.Legal.{May, MayCommit};
+ghost use Rattle.plane_spec.specs.Legal.{May};
 ghost use Rattle.plane_spec.specs.Planes.{apply, saved, committed, change_applied, with_roles, session_by};
 ghost use Rattle.plane_image.specs.Image.{steps_of};
+ghost use Rattle.plane_image.specs.Taking.{can_take, has_slots_in};
 ghost use Rattle.role_arbiter.specs.Arbitration.{settled, left, is_refused};
 
 use crate::image::Image;
@@ -16,6 +17,10 @@ use p4_types::table::Change;
 use plane_state::Config;
 use role_arbiter::Session;
 use std::alloc::Global;
+
+mod taking;
+
+pub use taking::may_is_taken;
 
 fn copied(config: &Option<Ids>) -> Option<Ids>
     ensures { result ≡ config.now }
@@ -56,10 +61,10 @@ impl Image {
         self.keep(1);
     }
 
-    // Makes a change of the target plane, if it can take effect.
+    // Makes a change of the target plane, if it can take effect. Without memory all changes are undone.
     fn change_if_free(&mut self, alloc: Global, change: &Change) -> Result<(), NoMemory>
         ensures ok { OnOk result (self.new.now ≡ change_applied self.old.now change.now) }
-        ensures err { OnErr result (self.new.now ≡ self.old.now) }
+        ensures err { OnErr result (self.new.now ≡ self.old.before) }
         ensures before { self.new.before ≡ self.old.before }
         ensures steps { self.new.steps ≡ self.old.steps }
     {
@@ -70,9 +75,10 @@ impl Image {
         }
     }
 
-    // Makes each change of a list that can take effect. Without memory some are made, which are still to be undone.
+    // Makes each change of a list that can take effect. Without memory all changes are undone.
     fn changes(&mut self, alloc: Global, changes: &[Change]) -> Result<(), NoMemory>
         ensures ok { OnOk result (self.new.now ≡ fold change_applied self.old.now changes.now) }
+        ensures err { OnErr result (self.new.now ≡ self.old.before) }
         ensures before { self.new.before ≡ self.old.before }
         ensures steps { self.new.steps ≡ self.old.steps }
     {
@@ -105,16 +111,9 @@ impl Image {
         ensures steps_ok { OnOk result (self.new.steps ≡ min (self.old.steps + 1) (2 ^ 64 - 1)) }
         ensures steps_err { OnErr result (self.new.steps ≡ self.old.steps) }
     {
-        match self.changes(alloc, changes) {
-            Ok(()) => {
-                self.keep(1);
-                Ok(())
-            }
-            Err(NoMemory) => {
-                self.undo();
-                Err(NoMemory)
-            }
-        }
+        self.changes(alloc, changes)?;
+        self.keep(1);
+        Ok(())
     }
 
     fn save_step(&mut self, alloc: Global, config: &Shared<Config>) -> Result<(), NoMemory>
@@ -134,7 +133,7 @@ impl Image {
     // Makes what is committed the active plane, and leaves none staged.
     fn commit_step(&mut self, alloc: Global, content: &Committed<Config>) -> Result<(), NoMemory>
         requires settled { self.old.before ≡ self.old.now }
-        requires may { MayCommit self.old.now content.now }
+        requires slots { has_slots_in self.old.now content.now ≡ true }
         ensures ok { OnOk result (self.new.now ≡ committed self.old.now content.now) }
         ensures err { OnErr result (self.new.now ≡ self.old.now) }
         ensures settled { self.new.before ≡ self.new.now }
@@ -160,10 +159,10 @@ impl Image {
         self.closed = true;
     }
 
-    /// The step of an event that may follow. Without memory, the image is as it was.
-    pub fn apply(&mut self, alloc: Global, event: &Event<Config>) -> Result<(), NoMemory>
+    // The step of an event that can be taken. Without memory, the image is as it was.
+    fn step(&mut self, alloc: Global, event: &Event<Config>) -> Result<(), NoMemory>
         requires settled { self.old.before ≡ self.old.now }
-        requires may { May self.old.now event.now }
+        requires taken { can_take self.old.now event.now ≡ true }
         ensures ok { OnOk result (self.new.now ≡ apply self.old.now event.now) }
         ensures err { OnErr result (self.new.now ≡ self.old.now) }
         ensures settled { self.new.before ≡ self.new.now }
@@ -180,5 +179,18 @@ impl Image {
             Event::Close => self.close(),
         }
         Ok(())
+    }
+
+    /// The step of an event that may follow. Without memory, the image is as it was.
+    pub fn apply(&mut self, alloc: Global, event: &Event<Config>) -> Result<(), NoMemory>
+        requires settled { self.old.before ≡ self.old.now }
+        requires may { May self.old.now event.now }
+        ensures ok { OnOk result (self.new.now ≡ apply self.old.now event.now) }
+        ensures err { OnErr result (self.new.now ≡ self.old.now) }
+        ensures settled { self.new.before ≡ self.new.now }
+        ensures steps_ok { OnOk result (self.new.steps ≡ min (self.old.steps + steps_of event.now) (2 ^ 64 - 1)) }
+        ensures steps_err { OnErr result (self.new.steps ≡ self.old.steps) }
+    {
+        self.step(alloc, event)
     }
 }

@@ -1,9 +1,10 @@
 //! The image.
-ghost use Rattle.std.specs.Prelude.{◌≡◌, ◌≤◌, ◌+◌, ◌-◌, ◌^◌, min, true, false, is_some, IfOk, OnOk, OnErr};
+ghost use Rattle.std.specs.Prelude.{◌≡◌, ◌≤◌, ◌+◌, ◌-◌, ◌^◌, min, true, false, is_some, IfOk, OnOk};
 ghost use Rattle.std.specs.Option.{option_map};
 ghost use Rattle.plane_spec.specs.Entries.{slot_limit};
 ghost use Rattle.plane_spec.specs.Planes.{room_of, target, cause_in, change_applied, with_roles};
 ghost use Rattle.plane_image.specs.Image.{CellsBelowIn};
+ghost use Rattle.plane_state.specs.Answers.{WithoutMemory, WhereRefused};
 ghost use Rattle.role_arbiter.specs.Arbitration.{arbitrated, left, is_refused};
 ghost use Rattle.role_arbiter.specs.Placing.{IsPlaced};
 ghost use Rattle.role_arbiter.specs.Telling.{told_at_arbitration};
@@ -114,7 +115,7 @@ impl Image {
         ensures { result ≡ room_of self.now.now }
     {
         let (active, staged) = self.planes.rows();
-        let rows = self.rows as usize;
+        let rows = u64::from(self.rows);
         Room {
             rows: rows.saturating_sub(active).saturating_sub(staged) as u32,
             slots: SLOT_LIMIT - self.next_slot,
@@ -126,37 +127,61 @@ impl Image {
         requires staged { is_some self.old.now.staged ≡ true }
         ensures refused { Refuses result (cause_in (target self.old.now) (room_of self.old.now) change.now) }
         ensures ok { OnOk result (self.new.now ≡ change_applied self.old.now change.now) }
-        ensures err { OnErr result (self.new.now ≡ self.old.now) }
+        ensures stays { WhereRefused result (self.new.now ≡ self.old.now) }
+        ensures undone { WithoutMemory result (self.new.now ≡ self.old.before) }
         ensures before { self.new.before ≡ self.old.before }
         ensures steps { self.new.steps ≡ self.old.steps }
     {
         let room = self.room();
-        let drawn = self.planes.change_staged(alloc, room, change)?;
-        self.next += drawn.numbers;
-        self.next_slot += drawn.slots;
-        Ok(())
+        match self.planes.change_staged(alloc, room, change) {
+            Ok(drawn) => {
+                self.next += drawn.numbers;
+                self.next_slot += drawn.slots;
+                Ok(())
+            }
+            Err(Refusal::For(cause)) => Err(Refusal::For(cause)),
+            Err(Refusal::NoMemory) => {
+                self.roles.undo();
+                self.next = self.former_next;
+                self.next_slot = self.former_slot;
+                Err(Refusal::NoMemory)
+            }
+        }
     }
 
     fn change_active(&mut self, alloc: Global, change: &Change) -> Result<(), Refusal<Cause>>
         requires staged { is_some self.old.now.staged ≡ false }
         ensures refused { Refuses result (cause_in (target self.old.now) (room_of self.old.now) change.now) }
         ensures ok { OnOk result (self.new.now ≡ change_applied self.old.now change.now) }
-        ensures err { OnErr result (self.new.now ≡ self.old.now) }
+        ensures stays { WhereRefused result (self.new.now ≡ self.old.now) }
+        ensures undone { WithoutMemory result (self.new.now ≡ self.old.before) }
         ensures before { self.new.before ≡ self.old.before }
         ensures steps { self.new.steps ≡ self.old.steps }
     {
         let room = self.room();
-        let drawn = self.planes.change_active(alloc, room, change)?;
-        self.next += drawn.numbers;
-        self.next_slot += drawn.slots;
-        Ok(())
+        match self.planes.change_active(alloc, room, change) {
+            Ok(drawn) => {
+                self.next += drawn.numbers;
+                self.next_slot += drawn.slots;
+                Ok(())
+            }
+            Err(Refusal::For(cause)) => Err(Refusal::For(cause)),
+            Err(Refusal::NoMemory) => {
+                self.roles.undo();
+                self.next = self.former_next;
+                self.next_slot = self.former_slot;
+                Err(Refusal::NoMemory)
+            }
+        }
     }
 
-    /// Makes a change of the target plane; refused for its cause, or for want of memory, and then the image is as it was.
+    /// Makes a change of the target plane; refused for its cause, and then the image is as it was, or for want of memory,
+    /// and then all changes are undone.
     pub(crate) fn change(&mut self, alloc: Global, change: &Change) -> Result<(), Refusal<Cause>>
         ensures refused { Refuses result (cause_in (target self.old.now) (room_of self.old.now) change.now) }
         ensures ok { OnOk result (self.new.now ≡ change_applied self.old.now change.now) }
-        ensures err { OnErr result (self.new.now ≡ self.old.now) }
+        ensures stays { WhereRefused result (self.new.now ≡ self.old.now) }
+        ensures undone { WithoutMemory result (self.new.now ≡ self.old.before) }
         ensures before { self.new.before ≡ self.old.before }
         ensures steps { self.new.steps ≡ self.old.steps }
     {

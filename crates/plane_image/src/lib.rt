@@ -11,5 +11,6 @@ mod replaced;
 mod scope;
 mod updating;
 
+pub use applying::may_is_taken;
 pub use image::Image;
 pub use scope::Scope;

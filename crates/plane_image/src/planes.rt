@@ -1,10 +1,11 @@
 //! The active and the staged plane.
-ghost use Rattle.std.specs.Prelude.{◌≡◌, Some, None, is_some, IfOk, OnOk, OnErr};
+ghost use Rattle.std.specs.Prelude.{◌≡◌, Some, None, is_some, IfOk, OnOk};
 ghost use Rattle.std.specs.Option.{option_map};
 ghost use Rattle.plane_spec.specs.Entries.{next_number};
 ghost use Rattle.plane_spec.specs.Planes.{cause_in, rows_in, or_else};
-ghost use Rattle.plane_image.specs.Image.{now_of, before_of, BelowIn, after_in, drawn_in};
+ghost use Rattle.plane_image.specs.Image.{now_of, before_of, undone, BelowIn, after_in, drawn_in};
 ghost use Rattle.plane_image.specs.Replaced.{former_active, former_staged};
+ghost use Rattle.plane_state.specs.Answers.{WithoutMemory, WhereRefused};
 ghost use Rattle.table_store.specs.Answers.{Refuses};
 
 use crate::replaced::Replaced;
@@ -43,16 +44,16 @@ impl Model for Planes {
     } };
 }
 
-fn rows_in(plane: &Option<Plane>) -> usize
+fn rows_in(plane: &Option<Plane>) -> u64
     ensures { result ≡ rows_in (now_of plane.now) }
 {
     match plane {
-        Some(plane) => plane.store().len(),
+        Some(plane) => plane.rows(),
         None => 0,
     }
 }
 
-// Makes a change of a plane, if there is one.
+// Makes a change of a plane, if there is one. Without memory all changes of it are undone.
 fn change_in(
     plane: &mut Option<Plane>,
     alloc: Global,
@@ -63,7 +64,8 @@ fn change_in(
     ensures refused { Refuses result (cause_in (now_of plane.old) room change.now) }
     ensures ok { OnOk result (now_of plane.new ≡ after_in (now_of plane.old) room change.now) }
     ensures drawn { IfOk result (λ drawn. drawn ≡ drawn_in (now_of plane.old) change.now) }
-    ensures err { OnErr result (now_of plane.new ≡ now_of plane.old) }
+    ensures stays { WhereRefused result (now_of plane.new ≡ now_of plane.old) }
+    ensures undone { WithoutMemory result (now_of plane.new ≡ before_of plane.old) }
     ensures before { before_of plane.new ≡ before_of plane.old }
 {
     match plane {
@@ -112,6 +114,19 @@ fn restore(active: &mut Option<Plane>, staged: &mut Option<Plane>, replaced: Rep
     }
 }
 
+// Puts the staged plane, if there is one, in the place of the active one. What was replaced.
+fn promoted(active: &mut Option<Plane>, staged: &mut Option<Plane>) -> Replaced
+    ensures active { now_of active.new ≡ or_else (now_of staged.old) (now_of active.old) }
+    ensures staged { now_of staged.new ≡ None }
+    ensures former_active { former_active result (before_of active.new) ≡ before_of active.old }
+    ensures former_staged { former_staged result (before_of active.new) (before_of staged.new) ≡ before_of staged.old }
+{
+    match staged.take() {
+        Some(plane) => Replaced::Promoted(active.replace(plane)),
+        None => Replaced::Nothing,
+    }
+}
+
 impl Planes {
     /// This plane is active, or none, and none is staged.
     pub(crate) fn open(active: Option<Plane>) -> Planes
@@ -150,14 +165,14 @@ impl Planes {
     }
 
     /// How many rows the active plane takes, and the staged one.
-    pub(crate) fn rows(&self) -> (usize, usize)
+    pub(crate) fn rows(&self) -> (u64, u64)
         ensures active { result.0 ≡ rows_in self.now.active }
         ensures staged { result.1 ≡ rows_in self.now.staged }
     {
         (rows_in(&self.active), rows_in(&self.staged))
     }
 
-    /// Makes a change of the active plane.
+    /// Makes a change of the active plane. Without memory all changes are undone.
     pub(crate) fn change_active(
         &mut self,
         alloc: Global,
@@ -168,12 +183,17 @@ impl Planes {
         ensures refused { Refuses result (cause_in self.old.active room change.now) }
         ensures ok { OnOk result (self.new ≡ record self.old { active = after_in self.old.active room change.now }) }
         ensures drawn { IfOk result (λ drawn. drawn ≡ drawn_in self.old.active change.now) }
-        ensures err { OnErr result (self.new ≡ self.old) }
+        ensures stays { WhereRefused result (self.new ≡ self.old) }
+        ensures undone { WithoutMemory result (self.new ≡ undone self.old) }
     {
-        change_in(&mut self.active, alloc, room, change)
+        let made = change_in(&mut self.active, alloc, room, change);
+        if let Err(Refusal::NoMemory) = made {
+            self.undo();
+        }
+        made
     }
 
-    /// Makes a change of the staged plane.
+    /// Makes a change of the staged plane. Without memory all changes are undone.
     pub(crate) fn change_staged(
         &mut self,
         alloc: Global,
@@ -184,9 +204,14 @@ impl Planes {
         ensures refused { Refuses result (cause_in self.old.staged room change.now) }
         ensures ok { OnOk result (self.new ≡ record self.old { staged = after_in self.old.staged room change.now }) }
         ensures drawn { IfOk result (λ drawn. drawn ≡ drawn_in self.old.staged change.now) }
-        ensures err { OnErr result (self.new ≡ self.old) }
+        ensures stays { WhereRefused result (self.new ≡ self.old) }
+        ensures undone { WithoutMemory result (self.new ≡ undone self.old) }
     {
-        change_in(&mut self.staged, alloc, room, change)
+        let made = change_in(&mut self.staged, alloc, room, change);
+        if let Err(Refusal::NoMemory) = made {
+            self.undo();
+        }
+        made
     }
 
     /// Keeps all changes: they can no longer be undone. It takes no memory.
@@ -230,17 +255,12 @@ impl Planes {
     {
         keep_in(&mut self.active);
         keep_in(&mut self.staged);
-        self.replaced = Replaced::Nothing;
-        if let Some(plane) = self.staged.take() {
-            let former = self.active.take();
-            self.active = Some(plane);
-            self.replaced = Replaced::Promoted(former);
-        }
+        self.replaced = promoted(&mut self.active, &mut self.staged);
     }
 
     /// Undoes all changes. It takes no memory.
     pub(crate) fn undo(&mut self)
-        ensures { self.new ≡ record { active = self.old.former_active; staged = self.old.former_staged; former_active = self.old.former_active; former_staged = self.old.former_staged } }
+        ensures { self.new ≡ undone self.old }
     {
         let replaced = mem::replace(&mut self.replaced, Replaced::Nothing);
         restore(&mut self.active, &mut self.staged, replaced);

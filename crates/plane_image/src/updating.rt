@@ -14,16 +14,21 @@ use write_rules::resolve;
 
 impl Image {
     // What an update of a role's primary changes, where it breaks no rule that asks for the program alone.
-    fn resolved(&self, scope: &Scope, update: &Update) -> Result<Change, Cause>
+    fn resolved(
+        &self,
+        alloc: Global,
+        scope: &Scope,
+        update: &Update,
+    ) -> Result<Result<Change, Cause>, NoMemory>
         requires { scope.now.ids ≡ scope_of self.now.now scope.now.role }
-        ensures { result ≡ resolved self.now.now scope.now.role update.now }
+        ensures { IfOk result (λ r. r ≡ resolved self.now.now scope.now.role update.now) }
     {
         match self.target() {
-            Some(plane) => resolve(plane.config().info(), scope.as_slice(), update),
-            None => Err(Cause {
+            Some(plane) => resolve(alloc, plane.config().info(), scope.as_slice(), update),
+            None => Ok(Err(Cause {
                 rule: Rule::U3,
                 code: Code::NotFound,
-            }),
+            })),
         }
     }
 
@@ -41,7 +46,7 @@ impl Image {
         ensures before { self.new.before ≡ self.old.before }
         ensures steps { self.new.steps ≡ self.old.steps }
     {
-        let change = match self.resolved(scope, update) {
+        let change = match self.resolved(alloc, scope, update)? {
             Ok(change) => change,
             Err(cause) => return Ok(Err(cause)),
         };

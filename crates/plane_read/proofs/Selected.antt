@@ -11,7 +11,7 @@ use Rattle.switch_spec.specs.Reading.{selects}
 use Rattle.plane_spec.specs.UpdateRules.{has_match, name_of}
 use Rattle.plane_read.specs.Answered.{has_priority}
 use Rattle.plane_spec.specs.Order.{StandsBefore}
-use Rattle.table_store.proofs.Names.{names_equal}
+use Rattle.plane_spec.proofs.Names.{names_equal}
 
 twice_at : {X : Type 0} (b : Bool) (p q : X → Bool) (x : X) (xs : List X) → q x ≡ b → filter p (filter q xs) ≡ filter (λ y. q y && p y) xs → filter p (filter q (x ∷ xs)) ≡ filter (λ y. q y && p y) (x ∷ xs)
 twice_at true p q x xs e others = rw (e, others)

@@ -1,13 +1,17 @@
 -- What is answered, part by part.
-use Rattle.std.specs.Prelude.{◌≡◌, ℕ, ℤ, ◌||◌, Bool, List, ◌∷◌, ◌++◌, map}
+use Rattle.std.specs.Prelude.{◌≡◌, ℕ, ℤ, ◌||◌, ◌&&◌, Bool, List, ◌∷◌, ◌++◌, map}
 use Rattle.std.specs.Ordering.{int_eq}
 use Rattle.p4_types.specs.declared.info.Info.{Info}
+use Rattle.p4_types.specs.declared.messages.ActionProfileGroup.{ActionProfileGroup}
+use Rattle.p4_types.specs.declared.messages.ActionProfileMember.{ActionProfileMember}
 use Rattle.p4_types.specs.declared.messages.Entity.{Entity}
 use Rattle.p4_types.specs.declared.messages.Entity.TheVariants as entities
+use Rattle.p4_types.specs.declared.profiles.Group.{Group}
+use Rattle.p4_types.specs.declared.profiles.Member.{Member}
 use Rattle.p4_types.specs.declared.table.Entry.{Entry}
 use Rattle.std.specs.List.{filter_map}
 use Rattle.plane_spec.specs.Planes.{Plane, default_entry}
-use Rattle.switch_spec.specs.Reading.{shown_entry, shown_default, response_bytes, chunks}
+use Rattle.switch_spec.specs.Reading.{is_asked_id, shown_entry, shown_default, shown_member, shown_group, response_bytes, chunks}
 use Rattle.plane_spec.specs.UpdateRules.{is_zero}
 
 -- an entry has the priority; 0 asks for any
@@ -21,6 +25,22 @@ answered info list = map entities.TableEntry (map (shown_entry info) list)
 -- the default actions of tables, each as it is answered
 abbrev pub answered_defaults : Plane → List ℕ → List Entity
 answered_defaults plane tables = map entities.TableEntry (map (shown_default plane.config.info) (filter_map (default_entry plane) tables))
+
+-- whether a member is asked for
+abbrev pub selects_member : ActionProfileMember → Member → Bool
+selects_member asked member = is_asked_id asked.action_profile_id member.profile && is_asked_id asked.member_id member.id
+
+-- members, each as it is answered
+abbrev pub answered_members : Info → List Member → List Entity
+answered_members info list = map entities.ActionProfileMember (map (shown_member info) list)
+
+-- whether a group is asked for
+abbrev pub selects_group : ActionProfileGroup → Group → Bool
+selects_group asked group = is_asked_id asked.action_profile_id group.profile && is_asked_id asked.group_id group.id
+
+-- groups, each as it is answered
+abbrev pub answered_groups : List Group → List Entity
+answered_groups list = map entities.ActionProfileGroup (map shown_group list)
 
 -- the messages for entities of which the first are written, some are gathered, and the others are to come
 abbrev pub messages_of : List (List ℕ) → List Entity → List Entity → List (List ℕ)

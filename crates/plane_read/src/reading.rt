@@ -4,7 +4,7 @@ ghost use Rattle.std.specs.List.{flat_map};
 ghost use Rattle.p4_types.specs.declared.messages.Entity.TheVariants as entities;
 ghost use Rattle.switch_spec.specs.Reading.{read_unless, first_of, entity_refusal, selected, selected_entries};
 
-use crate::{defaults, messages, refusals, selecting};
+use crate::{defaults, digests, groups, members, messages, refusals, selecting};
 use list_types::{ByteList, List, NoMemory};
 use p4_types::code::Code;
 use p4_types::messages::{Entity, TableEntry};
@@ -36,6 +36,11 @@ fn push_selected(
 {
     match entity {
         Some(Entity::TableEntry(asked)) => push_asked(alloc, plane, asked, answer),
+        Some(Entity::ActionProfileMember(asked)) => {
+            members::push_members(alloc, plane, asked, answer)
+        }
+        Some(Entity::ActionProfileGroup(asked)) => groups::push_groups(alloc, plane, asked, answer),
+        Some(Entity::DigestEntry(asked)) => digests::push_digests(plane, asked, answer),
         _ => Ok(()),
     }
 }
@@ -56,7 +61,8 @@ fn selected(
 
 /// The messages that answer a Read of these entities, each with at most 1,024 of what is selected (P4Runtime 1.3.0,
 /// "Read RPC"); or the code of the first entity asked for that is refused. Entries come by rising table id, those of
-/// one table in the order in which they were inserted.
+/// one table in the order in which they were inserted; members and groups by rising profile and id, digest entries by
+/// rising id.
 pub fn read(
     alloc: Global,
     plane: &Plane,

@@ -1,6 +1,7 @@
 //! Why a Read is refused.
-ghost use Rattle.std.specs.Prelude.{◌≡◌, map};
-ghost use Rattle.switch_spec.specs.Reading.{match_refusal, entry_refusal, entity_refusal, first_of};
+ghost use Rattle.std.specs.Prelude.{◌≡◌, is_some, map};
+ghost use Rattle.plane_spec.specs.Objects.{action_profile_of};
+ghost use Rattle.switch_spec.specs.Reading.{match_refusal, entry_refusal, id_refusal, entity_refusal, first_of};
 ghost use Rattle.write_rules.specs.Widths.{HasWidths};
 
 use p4_types::code::Code;
@@ -45,11 +46,32 @@ fn entry_refusal(info: &P4Info, asked: &TableEntry) -> Option<Code>
     }
 }
 
+fn id_refusal(id: u32, known: bool) -> Option<Code>
+    ensures { result ≡ id_refusal id known }
+{
+    if id == 0 || known {
+        None
+    } else {
+        Some(Code::NotFound)
+    }
+}
+
+fn profile_refusal(info: &P4Info, id: u32) -> Option<Code>
+    ensures { result ≡ id_refusal id (is_some (action_profile_of id info.now)) }
+{
+    id_refusal(id, info.action_profile(id).is_some())
+}
+
 fn entity_refusal(info: &P4Info, entity: &Option<Entity>) -> Option<Code>
     ensures { result ≡ entity_refusal info.now entity.now }
 {
     match entity {
         Some(Entity::TableEntry(asked)) => entry_refusal(info, asked),
+        Some(Entity::ActionProfileMember(asked)) => profile_refusal(info, asked.action_profile_id),
+        Some(Entity::ActionProfileGroup(asked)) => profile_refusal(info, asked.action_profile_id),
+        Some(Entity::DigestEntry(asked)) => {
+            id_refusal(asked.digest_id, info.digest(asked.digest_id).is_some())
+        }
         _ => Some(Code::Unimplemented),
     }
 }

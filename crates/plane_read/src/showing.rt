@@ -3,7 +3,7 @@ ghost use Rattle.std.specs.Prelude.{◌≡◌, map, fold, IfOk, OnOk, option_map
 ghost use Rattle.std.specs.List.{filter_map, zip};
 ghost use Rattle.switch_spec.specs.Reading.{shown_kind, shown_match, matches_in, param_of, params_in, shown_action, shown_entry_action, plain_entry, shown_entry, shown_default, placed};
 
-use crate::order;
+use crate::{order, weights};
 use canon_bytes::write;
 use list_types::{List, NoMemory};
 use p4_types::info;
@@ -148,7 +148,12 @@ fn params_in(
     Ok(List::from_vec(sorted))
 }
 
-fn shown_action(alloc: Global, info: &P4Info, call: &ActionCall) -> Result<Action, NoMemory>
+/// An action as it is answered: its parameters by rising id, in canonical form.
+pub(crate) fn shown_action(
+    alloc: Global,
+    info: &P4Info,
+    call: &ActionCall,
+) -> Result<Action, NoMemory>
     ensures { IfOk result (λ action. action ≡ shown_action info.now call.now) }
 {
     let params = params_in(alloc, info.action(call.action), call.arguments.as_slice())?;
@@ -167,8 +172,12 @@ fn shown_entry_action(
 {
     match action {
         EntryAction::Call(call) => Ok(TableAction::Action(shown_action(alloc, info, call)?)),
-        EntryAction::Member(id) => Ok(TableAction::ActionProfileMemberId(*id)),
-        EntryAction::Group(id) => Ok(TableAction::ActionProfileGroupId(*id)),
+        EntryAction::Member { id, .. } => Ok(TableAction::ActionProfileMemberId(*id)),
+        EntryAction::Group { id, .. } => Ok(TableAction::ActionProfileGroupId(*id)),
+        EntryAction::Set { calls, .. } => {
+            let set = weights::shown_set(alloc, info, calls.get().as_slice())?;
+            Ok(TableAction::ActionProfileActionSet(set))
+        }
     }
 }
 

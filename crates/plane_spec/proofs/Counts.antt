@@ -45,7 +45,3 @@ unfolding deleted
 sum-deleted f name entries =
     let p : Entry → Bool = λ e. not (same_name name e.name) in
     omega (arith, sum_by-filter_both p (λ e. not (p e)) (λ e. refl) f entries)
-
-pub length-sum : (entries : List Entry) → length entries ≡ sum_by (λ e. 1) entries
-length-sum [] = refl
-length-sum (e ∷ entries) = omega (arith, length-sum entries, sum_by-cons (λ (e : Entry). 1) e entries)

@@ -1,7 +1,9 @@
 -- What each event keeps of the planes, by counts; and that it makes them sound.
-use Rattle.std.proofs.Common.{◌≡◌, ℕ, ◌+◌, ◌-◌, ◌^◌, ◌≤◌, ◌==◌, ◌++◌, Option, Some, None, IfSome, arith}
+use Rattle.std.proofs.Common.{◌≡◌, ℕ, ◌+◌, ◌-◌, ◌^◌, ◌≤◌, ◌==◌, ◌++◌, List, Option, Some, None, IfSome, arith}
 use Rattle.std.specs.List.{count_by}
 use Rattle.p4_types.specs.declared.info.Table.{Table}
+use Rattle.p4_types.specs.declared.profiles.Group.{Group}
+use Rattle.p4_types.specs.declared.profiles.Member.{Member}
 use Rattle.plane_spec.specs.Config.{Config, cells_in}
 use Rattle.plane_spec.specs.Entries.{slot_limit, table_size}
 use Rattle.plane_spec.specs.Objects.{table_of}
@@ -9,15 +11,26 @@ use Rattle.plane_spec.specs.Planes.{Control, Plane, rows_in, made_plane}
 use Rattle.plane_spec.specs.PlaneLaws.{numbers_of, slots_of, IsSoundPlane, IsSoundControl}
 use Rattle.plane_spec.proofs.Drawn.{times, drawn, times-append, times-numbers_from, below_next, distinct}
 use Rattle.plane_spec.proofs.EntryOrder.{Stand, in_order}
+use Rattle.plane_spec.proofs.Keyed.{AreRising, rising_pairs}
 
 -- no table has more entries than its size
 abbrev pub AreWithinSizes : Plane → Type 0
 AreWithinSizes plane = (id : ℕ) (table : Table) → table_of id plane.config.info ≡ Some table → count_by (λ entry. entry.name.table == id) plane.entries ≤ table_size table
 
--- a plane's entries stand in order, and no table has more than its size
+-- members stand by rising profile and id
+abbrev pub AreMembersRising : List Member → Type 0
+AreMembersRising members = AreRising (λ m. m.profile) (λ m. m.id) members
+
+-- groups do
+abbrev pub AreGroupsRising : List Group → Type 0
+AreGroupsRising groups = AreRising (λ g. g.profile) (λ g. g.id) groups
+
+-- a plane's entries stand in order, and no table has more than its size; members and groups stand in order too
 pub record IsKeptPlane (plane : Plane) : Type 0 where
   pub stand : Stand plane.entries
   pub sizes : AreWithinSizes plane
+  pub members : AreMembersRising plane.members
+  pub groups : AreGroupsRising plane.groups
 
 -- The same as a sound control state, of its parts: each number and each slot stands once at most in both planes, and only if it was drawn.
 pub record AreKept (active staged : Option Plane) (next next_slot limit : ℕ) : Type 0 where
@@ -34,7 +47,12 @@ IsKept c = AreKept c.active c.staged c.next c.next_slot c.rows
 
 sound_plane : (o : Option Plane) → IfSome o IsKeptPlane → IfSome o IsSoundPlane
 sound_plane None h = tt
-sound_plane (Some plane) h = record { order = in_order plane.entries h.stand; sizes = h.sizes }
+sound_plane (Some plane) h = record {
+  order = in_order plane.entries h.stand;
+  sizes = h.sizes;
+  members = rising_pairs (λ (m : Member). m.profile) (λ m. m.id) plane.members h.members;
+  groups = rising_pairs (λ (g : Group). g.profile) (λ g. g.id) plane.groups h.groups;
+}
 
 pub sound : (c : Control) → IsKept c → IsSoundControl c
 sound c k =
@@ -59,7 +77,7 @@ pub kept_saved : (active staged : Option Plane) (next next_slot rows : ℕ) (con
     → AreKept active (Some (made_plane next_slot config)) next (next_slot + cells_in config) rows
 kept_saved active staged next next_slot rows config k fits = record {
   active_plane = k.active_plane;
-  staged_plane = record { stand = tt; sizes = λ id table is. omega arith };
+  staged_plane = record { stand = tt; sizes = λ id table is. omega arith; members = tt; groups = tt };
   numbers = λ x. omega (arith, k.numbers x);
   slots = λ x. omega (arith, k.slots x, times-numbers_from x (cells_in config) next_slot);
   rows = omega (arith, k.rows);

@@ -6,6 +6,8 @@ use Rattle.p4_types.specs.declared.code.Cause.{Cause}
 use Rattle.p4_types.specs.declared.events.Committed.TheVariants as contents
 use Rattle.p4_types.specs.declared.events.Event.TheVariants as events
 use Rattle.p4_types.specs.declared.info.Table.{Table}
+use Rattle.p4_types.specs.declared.profiles.ProfileChange.{ProfileChange}
+use Rattle.p4_types.specs.declared.profiles.ProfileChange.TheVariants as profile_changes
 use Rattle.p4_types.specs.declared.table.Change.{Change}
 use Rattle.p4_types.specs.declared.table.Change.TheVariants as changes
 use Rattle.p4_types.specs.declared.table.Entry.{Entry}
@@ -15,7 +17,7 @@ use Rattle.plane_spec.specs.Config.{Config, Committed, Event, cells_in}
 use Rattle.plane_spec.specs.Entries.{is_counted, same_name, new_entry, next_number, next_slot, slots_drawn, inserted, modified, deleted, with_change}
 use Rattle.plane_spec.specs.Legal.{Legal}
 use Rattle.plane_spec.specs.Objects.{table_of}
-use Rattle.plane_spec.specs.Planes.{Control, Plane, room_of, or_else, with_target, inserted_in, changed, changed_unless, changed_in, change_applied, apply, applied, made_plane, staged_committed, committed}
+use Rattle.plane_spec.specs.Planes.{profile_changed, Control, Plane, room_of, or_else, with_target, inserted_in, changed, changed_unless, changed_in, change_applied, apply, applied, made_plane, staged_committed, committed}
 use Rattle.plane_spec.proofs.ChangedPlanes.{put, same_next, with_planes, changes_kept}
 use Rattle.plane_spec.proofs.KeptPlanes.{IsKept}
 use Rattle.plane_spec.proofs.SoundPlanes.{event_kept}
@@ -114,6 +116,15 @@ insert_hold P Q (Some table) c old change t =
     t.replaced (record old { entries = inserted entry old.entries }) (c.next + 1) (c.next_slot + slots_drawn table) (omega arith) (omega arith)
     record { entries = inserted_holds P entry old.entries new t.own.entries; cells = t.own.cells }
 
+-- members and groups leave entries and cells as they are
+profile_holds : (P : ℕ → Option ℕ → Type 0) (Q : ℕ → ℕ → Type 0) (change : ProfileChange) (old : Plane) → Holds P Q old → Holds P Q (profile_changed old change)
+profile_holds P Q (profile_changes.InsertMember member) old h = record { entries = h.entries; cells = h.cells }
+profile_holds P Q (profile_changes.ModifyMember member) old h = record { entries = h.entries; cells = h.cells }
+profile_holds P Q (profile_changes.DeleteMember profile id) old h = record { entries = h.entries; cells = h.cells }
+profile_holds P Q (profile_changes.InsertGroup group) old h = record { entries = h.entries; cells = h.cells }
+profile_holds P Q (profile_changes.ModifyGroup group) old h = record { entries = h.entries; cells = h.cells }
+profile_holds P Q (profile_changes.DeleteGroup profile id) old h = record { entries = h.entries; cells = h.cells }
+
 changed_hold : (P : ℕ → Option ℕ → Type 0) (Q : ℕ → ℕ → Type 0) (change : Change) (c : Control) (old : Plane) → IsTarget P Q c old → Hold P Q (changed c old change)
 changed_hold P Q (changes.InsertEntry change) c old t = insert_hold P Q (table_of change.name.table old.config.info) c old change t
 changed_hold P Q (changes.ModifyEntry change) c old t =
@@ -121,6 +132,8 @@ changed_hold P Q (changes.ModifyEntry change) c old t =
 changed_hold P Q (changes.DeleteEntry name) c old t =
     drawing_nothing P Q c old (record old { entries = deleted name old.entries }) t record { entries = deleted_holds P name old.entries t.own.entries; cells = t.own.cells }
 changed_hold P Q (changes.ModifyDefault table action) c old t = drawing_nothing P Q c old _ t record { entries = t.own.entries; cells = t.own.cells }
+changed_hold P Q (changes.Profile change) c old t = drawing_nothing P Q c old _ t (profile_holds P Q change old t.own)
+changed_hold P Q (changes.Digest change) c old t = drawing_nothing P Q c old _ t record { entries = t.own.entries; cells = t.own.cells }
 
 unless_hold : (P : ℕ → Option ℕ → Type 0) (Q : ℕ → ℕ → Type 0) (o : Option Cause) (change : Change) (c : Control) (old : Plane) → IsTarget P Q c old → Hold P Q (changed_unless o c old change)
 unless_hold P Q None change c old t = changed_hold P Q change c old t

@@ -1,10 +1,13 @@
 pub mod ChangedPlanes
+pub mod ChangedProfiles
 pub mod Counts
 pub mod Drawn
 pub mod EntryOrder
+pub mod Keyed
 pub mod KeptPlanes
 pub mod Lasting
 pub mod Lists
+pub mod Names
 pub mod Slots
 pub mod SoundPlanes
 pub mod SoundRoles

@@ -112,17 +112,17 @@ next_slot room = slot_limit - room.slots
 abbrev pub entries_of : Table → List Entry → ℕ
 entries_of table entries = count_by (λ entry. entry.name.table == table.preamble.id) entries
 
--- U12: with one entry more the table would exceed its size, or what it needs is more than what is left of rows, slots or sequence numbers
-abbrev pub is_full : Table → Room → List Entry → Bool
-is_full table room entries =
+-- U12: with one entry more the table would exceed its size, or what it needs, with so many rows, is more than what is left of rows, slots or sequence numbers
+abbrev pub is_full : Table → ℕ → Room → List Entry → Bool
+is_full table rows room entries =
     nat_lt (table_size table) (entries_of table entries + 1)
-    || nat_lt room.rows 1 || nat_lt room.slots (slots_drawn table) || nat_lt room.numbers 1
+    || nat_lt room.rows rows || nat_lt room.slots (slots_drawn table) || nat_lt room.numbers 1
 
--- U10: an INSERT of what is present; U12
-unfoldable pub insert_cause : Table → Room → EntryName → List Entry → Option Cause
-insert_cause table room name entries =
+-- U10: an INSERT of what is present; U12 on the entry by itself, which takes so many rows
+unfoldable pub insert_cause : Table → ℕ → Room → EntryName → List Entry → Option Cause
+insert_cause table rows room name entries =
     if is_some (entry_named name entries) then Some (record { rule = rules.U10; code = codes.AlreadyExists }) else
-    if is_full table room entries then Some (record { rule = rules.U12; code = codes.ResourceExhausted }) else None
+    if is_full table rows room entries then Some (record { rule = rules.U12; code = codes.ResourceExhausted }) else None
 
 -- U10: a MODIFY or a DELETE of what is absent
 unfoldable pub absence_cause : EntryName → List Entry → Option Cause

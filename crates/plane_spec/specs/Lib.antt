@@ -6,7 +6,9 @@ pub mod Objects
 pub mod Order
 pub mod PlaneLaws
 pub mod Planes
+pub mod ProfileRules
 pub mod Profiles
 pub mod RoleLaws
 pub mod SlotLaws
 pub mod UpdateRules
+pub mod Updates

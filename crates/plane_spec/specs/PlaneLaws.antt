@@ -1,5 +1,5 @@
 -- What holds of the planes in each state of a run.
-use Rattle.std.specs.Prelude.{◌≡◌, ℕ, zero, suc, ◌+◌, ◌-◌, ◌^◌, ◌<◌, ◌≤◌, ◌==◌, List, [], ◌∷◌, ◌++◌, map, count_by, All, Option, Some, None, IfSome, nat_eq}
+use Rattle.std.specs.Prelude.{◌≡◌, ℕ, zero, suc, ◌+◌, ◌-◌, ◌^◌, ◌<◌, ◌≤◌, ◌==◌, List, [], ◌∷◌, ◌++◌, map, count_by, All, Option, Some, None, IfSome, nat_eq, true}
 use Rattle.std.specs.List.{AllPairs, IsDistinct, filter_map}
 use Rattle.p4_types.specs.declared.events.Start.{Start}
 use Rattle.p4_types.specs.declared.info.Table.{Table}
@@ -8,6 +8,7 @@ use Rattle.plane_spec.specs.Entries.{slot_limit, table_size}
 use Rattle.plane_spec.specs.Legal.{Legal}
 use Rattle.plane_spec.specs.Objects.{table_of}
 use Rattle.plane_spec.specs.Order.{StandsBefore}
+use Rattle.plane_spec.specs.Profiles.{stands_before}
 use Rattle.plane_spec.specs.Planes.{Control, Plane, opened, applied, rows_used}
 
 -- so many numbers, from this one on
@@ -25,9 +26,11 @@ abbrev pub slots_of : Option Plane → List ℕ
 slots_of None = []
 slots_of (Some plane) = filter_map (λ entry. entry.slot) plane.entries ++ numbers_from (cells_in plane.config) plane.cells
 
--- the entries of a plane stand in order, no two of one name, and no table has more than its size
+-- The entries of a plane stand in order, no two of one name, and no table has more than its size. Its members and its groups stand by rising profile and id.
 pub record IsSoundPlane (plane : Plane) : Type 0 where
   pub order : AllPairs StandsBefore plane.entries
+  pub members : AllPairs (λ a b. stands_before a.profile a.id b.profile b.id ≡ true) plane.members
+  pub groups : AllPairs (λ a b. stands_before a.profile a.id b.profile b.id ≡ true) plane.groups
   pub sizes : (id : ℕ) (table : Table) → table_of id plane.config.info ≡ Some table → count_by (λ entry. entry.name.table == id) plane.entries ≤ table_size table
 
 -- both planes are sound, what they drew was drawn once and is below what is drawn next, and the limits are kept

@@ -1,8 +1,18 @@
 -- The control state of the switch, and what changes it (P4Runtime 1.3.0, "Mastership Arbitration", "Table entries", "SetForwardingPipelineConfig RPC").
-use Rattle.std.specs.Prelude.{ℕ, ◌+◌, ◌-◌, ◌^◌, ◌==◌, ◌&&◌, not, nat_lt, Bool, true, false, if◌then◌else◌, List, [], ◌∷◌, ◌++◌, length, Option, Some, None, option_map, is_some, fold, take, find, filter, Result, Ok, Err}
+use Rattle.std.specs.Prelude.{ℕ, ◌+◌, ◌-◌, ◌^◌, ◌==◌, ◌&&◌, ◌||◌, not, nat_lt, Bool, true, false, if◌then◌else◌, List, [], ◌∷◌, ◌++◌, length, sum_by, Option, Some, None, option_map, is_some, fold, take, find, filter, Result, Ok, Err}
+use Rattle.std.specs.List.{list_any}
 use Rattle.p4_types.specs.declared.code.Cause.{Cause}
+use Rattle.p4_types.specs.declared.code.Code.{Code}
 use Rattle.p4_types.specs.declared.code.Code.TheVariants as codes
+use Rattle.p4_types.specs.declared.code.Rule.{Rule}
 use Rattle.p4_types.specs.declared.code.Rule.TheVariants as rules
+use Rattle.p4_types.specs.declared.profiles.Group.{Group}
+use Rattle.p4_types.specs.declared.profiles.Member.{Member}
+use Rattle.p4_types.specs.declared.profiles.ProfileChange.{ProfileChange}
+use Rattle.p4_types.specs.declared.profiles.ProfileChange.TheVariants as profile_changes
+use Rattle.p4_types.specs.declared.profiles.Share.{Share}
+use Rattle.p4_types.specs.declared.table.DigestChange.{DigestChange}
+use Rattle.p4_types.specs.declared.table.DigestChange.TheVariants as digest_changes
 use Rattle.p4_types.specs.declared.events.Committed.TheVariants as contents
 use Rattle.p4_types.specs.declared.events.Event.TheVariants as events
 use Rattle.p4_types.specs.declared.events.Origin.{Origin}
@@ -16,6 +26,8 @@ use Rattle.p4_types.specs.declared.table.Change.{Change}
 use Rattle.p4_types.specs.declared.table.Change.TheVariants as changes
 use Rattle.p4_types.specs.declared.table.DefaultAction.{DefaultAction}
 use Rattle.p4_types.specs.declared.table.Entry.{Entry}
+use Rattle.p4_types.specs.declared.table.EntryAction.{EntryAction}
+use Rattle.p4_types.specs.declared.table.EntryAction.TheVariants as entry_actions
 use Rattle.p4_types.specs.declared.table.EntryChange.{EntryChange}
 use Rattle.p4_types.specs.declared.table.Room.{Room}
 use Rattle.role_arbiter.specs.declared.sessions.Session.{Session}
@@ -24,10 +36,11 @@ use Rattle.role_arbiter.specs.Election.{election_number}
 use Rattle.role_arbiter.specs.State.{RolesState, no_roles, primary_of}
 use Rattle.plane_spec.specs.Bridge.{bridge_config, bridge_session}
 use Rattle.plane_spec.specs.Config.{Config, Committed, Event, cells_in, own_defaults}
-use Rattle.plane_spec.specs.Entries.{slot_limit, insert_cause, absence_cause, new_entry, slots_drawn, inserted, modified, deleted}
-use Rattle.plane_spec.specs.Objects.{table_of}
-use Rattle.plane_spec.specs.Profiles.{Member, Group}
-use Rattle.plane_spec.specs.UpdateRules.{resolution, caused, unless}
+use Rattle.plane_spec.specs.Entries.{slot_limit, entry_named, is_full, absence_cause, new_entry, slots_drawn, inserted, modified, deleted}
+use Rattle.plane_spec.specs.Objects.{table_of, action_profile_of}
+use Rattle.plane_spec.specs.Profiles.{member_of, group_of, member_inserted, member_modified, member_deleted, group_inserted, group_modified, group_deleted, member_uses, group_uses, set_size, set_actions, members_in, groups_in, profile_size, is_overweight, weight_of, set_weight, entry_rows, group_rows}
+use Rattle.plane_spec.specs.UpdateRules.{caused, unless}
+use Rattle.plane_spec.specs.Updates.{resolution}
 
 -- the state of a program
 pub record Plane : Type 0 where
@@ -110,10 +123,14 @@ scope_in (Some p) = p.config
 abbrev pub scope_of : Control → ℕ → Option (List ℕ)
 scope_of c role = scope_in (primary c role)
 
--- how many rows a plane takes
+-- how many rows a plane takes: its entries, members and groups
+abbrev pub rows_of : Plane → ℕ
+rows_of plane = sum_by (λ entry. entry_rows entry.action) plane.entries + length plane.members + sum_by group_rows plane.groups
+
+-- the same of a plane that there may be
 abbrev pub rows_in : Option Plane → ℕ
 rows_in None = 0
-rows_in (Some plane) = length plane.entries
+rows_in (Some plane) = rows_of plane
 
 -- how many rows both planes take
 abbrev pub rows_used : Control → ℕ
@@ -123,17 +140,128 @@ rows_used c = rows_in c.active + rows_in c.staged
 abbrev pub room_of : Control → Room
 room_of c = record { rows = c.rows - rows_used c; slots = slot_limit - c.next_slot; numbers = 2 ^ 64 - 1 - c.next }
 
--- U10 and U12: why an INSERT is refused
+-- a cause that is asked behind another
+abbrev pub or_cause : Option Cause → Option Cause → Option Cause
+or_cause (Some cause) other = Some cause
+or_cause None other = other
+
+-- a cause where a rule is broken
+abbrev pub caused_if : Bool → Rule → Code → Option Cause
+caused_if broken rule code = if broken then caused rule code else None
+
+-- U10: what an INSERT brings is present
+abbrev pub if_present : Bool → Option Cause
+if_present present = caused_if present rules.U10 codes.AlreadyExists
+
+-- U10: what a MODIFY or a DELETE names is absent
+abbrev pub if_absent : Bool → Option Cause
+if_absent present = caused_if (not present) rules.U10 codes.NotFound
+
+-- U11
+abbrev pub if_in_use : Bool → Option Cause
+if_in_use broken = caused_if broken rules.U11 codes.FailedPrecondition
+
+-- U12
+abbrev pub if_full : Bool → Option Cause
+if_full full = caused_if full rules.U12 codes.ResourceExhausted
+
+-- U11: the member or group that an entry names is absent, or its one-shot set would stand in a profile with members or groups
+abbrev pub lacks_use : Plane → EntryAction → Bool
+lacks_use plane (entry_actions.Call call) = false
+lacks_use plane (entry_actions.Member profile id) = not (is_some (member_of profile id plane.members))
+lacks_use plane (entry_actions.Group profile id) = not (is_some (group_of profile id plane.groups))
+lacks_use plane (entry_actions.Set profile calls) = not (members_in profile plane.members + groups_in profile plane.groups == 0)
+
+-- how many actions of a one-shot set of a profile an entry has that is to be replaced, if there is one
+abbrev pub former_set : ℕ → Option Entry → ℕ
+former_set profile None = 0
+former_set profile (Some entry) = set_size profile entry.action
+
+-- U12 on a one-shot set: with it, in the place of what an entry had, its profile would exceed its size, or it the limit of weights.
+-- A profile of one-shot sets has no members.
+abbrev pub set_exceeds : Plane → Option Entry → EntryAction → Bool
+set_exceeds plane former (entry_actions.Set profile calls) =
+    nat_lt (profile_size (action_profile_of profile plane.config.info) + former_set profile former) (set_actions profile plane.entries + length calls)
+    || is_overweight (action_profile_of profile plane.config.info) (set_weight calls)
+set_exceeds plane former _ = false
+
+-- U10 to U12: why an INSERT of an entry is refused
 abbrev pub insert_cause_in : Option Table → Room → Plane → EntryChange → Option Cause
 insert_cause_in None room plane change = caused rules.U3 codes.NotFound
-insert_cause_in (Some table) room plane change = insert_cause table room change.name plane.entries
+insert_cause_in (Some table) room plane change =
+    or_cause (if_present (is_some (entry_named change.name plane.entries)))
+    (or_cause (if_in_use (lacks_use plane change.action))
+    (if_full (is_full table (entry_rows change.action) room plane.entries || set_exceeds plane None change.action)))
+
+-- U10 to U12: why a MODIFY of an entry is refused, where there is one of that name. What stands there after it counts.
+abbrev pub modify_cause_in : Option Entry → Room → Plane → EntryChange → Option Cause
+modify_cause_in None room plane change = if_absent false
+modify_cause_in (Some former) room plane change =
+    or_cause (if_in_use (lacks_use plane change.action))
+    (if_full (nat_lt (room.rows + entry_rows former.action) (entry_rows change.action) || set_exceeds plane (Some former) change.action))
+
+-- U11: a member that a group names is absent
+abbrev pub lacks_member : ℕ → List Member → List Share → Bool
+lacks_member profile members shares = list_any (λ share. not (is_some (member_of profile share.member members))) shares
+
+-- U10 to U12: why an INSERT of a member is refused
+abbrev pub member_insert_cause : Room → Plane → Member → Option Cause
+member_insert_cause room plane member =
+    or_cause (if_present (is_some (member_of member.profile member.id plane.members)))
+    (or_cause (if_in_use (not (set_actions member.profile plane.entries == 0)))
+    (if_full (nat_lt (profile_size (action_profile_of member.profile plane.config.info)) (members_in member.profile plane.members + 1) || nat_lt room.rows 1)))
+
+-- U10 and U11: why a DELETE of a member is refused
+abbrev pub member_delete_cause : Plane → ℕ → ℕ → Option Cause
+member_delete_cause plane profile id =
+    or_cause (if_absent (is_some (member_of profile id plane.members))) (if_in_use (not (member_uses profile id plane.entries plane.groups == 0)))
+
+-- U10 to U12: why an INSERT of a group is refused
+abbrev pub group_insert_cause : Room → Plane → Group → Option Cause
+group_insert_cause room plane group =
+    or_cause (if_present (is_some (group_of group.profile group.id plane.groups)))
+    (or_cause (if_in_use (lacks_member group.profile plane.members group.shares || not (set_actions group.profile plane.entries == 0)))
+    (if_full (is_overweight (action_profile_of group.profile plane.config.info) (weight_of group.shares) || nat_lt room.rows (group_rows group))))
+
+-- U10 to U12: why a MODIFY of a group is refused, where there is one of that id. What stands there after it counts.
+abbrev pub group_modify_cause : Option Group → Room → Plane → Group → Option Cause
+group_modify_cause None room plane group = if_absent false
+group_modify_cause (Some former) room plane group =
+    or_cause (if_in_use (lacks_member group.profile plane.members group.shares))
+    (if_full (is_overweight (action_profile_of group.profile plane.config.info) (weight_of group.shares) || nat_lt (room.rows + group_rows former) (group_rows group)))
+
+-- U10 and U11: why a DELETE of a group is refused
+abbrev pub group_delete_cause : Plane → ℕ → ℕ → Option Cause
+group_delete_cause plane profile id =
+    or_cause (if_absent (is_some (group_of profile id plane.groups))) (if_in_use (not (group_uses profile id plane.entries == 0)))
+
+-- U10 to U12: why a change of a member or a group is refused
+abbrev pub profile_cause : Room → Plane → ProfileChange → Option Cause
+profile_cause room plane (profile_changes.InsertMember member) = member_insert_cause room plane member
+profile_cause room plane (profile_changes.ModifyMember member) = if_absent (is_some (member_of member.profile member.id plane.members))
+profile_cause room plane (profile_changes.DeleteMember profile id) = member_delete_cause plane profile id
+profile_cause room plane (profile_changes.InsertGroup group) = group_insert_cause room plane group
+profile_cause room plane (profile_changes.ModifyGroup group) = group_modify_cause (group_of group.profile group.id plane.groups) room plane group
+profile_cause room plane (profile_changes.DeleteGroup profile id) = group_delete_cause plane profile id
+
+-- the entry of a digest, if it has one
+abbrev pub digest_in : ℕ → List DigestEntry → Option DigestEntry
+digest_in digest entries = find (λ entry. entry.digest_id == digest) entries
+
+-- U10: why a change of a digest entry is refused
+abbrev pub digest_cause_in : List DigestEntry → DigestChange → Option Cause
+digest_cause_in entries (digest_changes.Insert entry) = if_present (is_some (digest_in entry.digest_id entries))
+digest_cause_in entries (digest_changes.Modify entry) = if_absent (is_some (digest_in entry.digest_id entries))
+digest_cause_in entries (digest_changes.Delete digest) = if_absent (is_some (digest_in digest entries))
 
 -- U10 to U12: why a change is refused in the state as it is. A default entry counts as present.
 abbrev pub change_cause : Room → Plane → Change → Option Cause
 change_cause room plane (changes.InsertEntry change) = insert_cause_in (table_of change.name.table plane.config.info) room plane change
-change_cause room plane (changes.ModifyEntry change) = absence_cause change.name plane.entries
+change_cause room plane (changes.ModifyEntry change) = modify_cause_in (entry_named change.name plane.entries) room plane change
 change_cause room plane (changes.DeleteEntry name) = absence_cause name plane.entries
 change_cause room plane (changes.ModifyDefault table action) = None
+change_cause room plane (changes.Profile change) = profile_cause room plane change
+change_cause room plane (changes.Digest change) = digest_cause_in plane.digests change
 
 -- why a change of the target plane is refused; without a plane no table is known
 abbrev pub cause_in : Option Plane → Room → Change → Option Cause
@@ -171,12 +299,33 @@ inserted_in None c plane change = c
 inserted_in (Some table) c plane change =
     record (with_entries c plane (inserted (new_entry table (room_of c) change) plane.entries)) { next = c.next + 1; next_slot = c.next_slot + slots_drawn table }
 
+-- a plane after a change of a member or a group
+abbrev pub profile_changed : Plane → ProfileChange → Plane
+profile_changed plane (profile_changes.InsertMember member) = record plane { members = member_inserted member plane.members }
+profile_changed plane (profile_changes.ModifyMember member) = record plane { members = member_modified member plane.members }
+profile_changed plane (profile_changes.DeleteMember profile id) = record plane { members = member_deleted profile id plane.members }
+profile_changed plane (profile_changes.InsertGroup group) = record plane { groups = group_inserted group plane.groups }
+profile_changed plane (profile_changes.ModifyGroup group) = record plane { groups = group_modified group plane.groups }
+profile_changed plane (profile_changes.DeleteGroup profile id) = record plane { groups = group_deleted profile id plane.groups }
+
+-- a digest's entry in the place of one that it had, if it had one; they stand by rising id
+abbrev pub with_digest : DigestEntry → List DigestEntry → List DigestEntry
+with_digest entry entries = filter (λ other. nat_lt other.digest_id entry.digest_id) entries ++ entry ∷ filter (λ other. nat_lt entry.digest_id other.digest_id) entries
+
+-- the digest entries after a change of one
+abbrev pub digests_changed : List DigestEntry → DigestChange → List DigestEntry
+digests_changed entries (digest_changes.Insert entry) = with_digest entry entries
+digests_changed entries (digest_changes.Modify entry) = with_digest entry entries
+digests_changed entries (digest_changes.Delete digest) = filter (λ other. not (other.digest_id == digest)) entries
+
 -- the state after a change of the target plane that is not refused
 abbrev pub changed : Control → Plane → Change → Control
 changed c plane (changes.InsertEntry change) = inserted_in (table_of change.name.table plane.config.info) c plane change
 changed c plane (changes.ModifyEntry change) = with_entries c plane (modified change plane.entries)
 changed c plane (changes.DeleteEntry name) = with_entries c plane (deleted name plane.entries)
 changed c plane (changes.ModifyDefault table action) = with_target c (record plane { changed = with_default table action plane.changed })
+changed c plane (changes.Profile change) = with_target c (profile_changed plane change)
+changed c plane (changes.Digest change) = with_target c (record plane { digests = digests_changed plane.digests change })
 
 -- the state after a change, which stays where there is a cause to refuse it
 abbrev pub changed_unless : Option Cause → Control → Plane → Change → Control

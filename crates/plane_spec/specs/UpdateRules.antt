@@ -8,6 +8,7 @@ use Rattle.p4_types.specs.declared.code.Code.TheVariants as codes
 use Rattle.p4_types.specs.declared.code.Rule.{Rule}
 use Rattle.p4_types.specs.declared.code.Rule.TheVariants as rules
 use Rattle.p4_types.specs.declared.info.Action as infos
+use Rattle.p4_types.specs.declared.info.ActionProfile.{ActionProfile}
 use Rattle.p4_types.specs.declared.info.Info.{Info}
 use Rattle.p4_types.specs.declared.info.MatchField.{MatchField}
 use Rattle.p4_types.specs.declared.info.MatchKind.{MatchKind}
@@ -17,8 +18,8 @@ use Rattle.p4_types.specs.declared.info.Scope.{Scope}
 use Rattle.p4_types.specs.declared.info.Scope.TheVariants as scopes
 use Rattle.p4_types.specs.declared.info.Table.{Table}
 use Rattle.p4_types.specs.declared.messages.Action.{Action}
-use Rattle.p4_types.specs.declared.messages.Entity.{Entity}
-use Rattle.p4_types.specs.declared.messages.Entity.TheVariants as entities
+use Rattle.p4_types.specs.declared.messages.ActionProfileAction.{ActionProfileAction}
+use Rattle.p4_types.specs.declared.messages.ActionProfileActionSet.{ActionProfileActionSet}
 use Rattle.p4_types.specs.declared.messages.FieldMatch.{FieldMatch}
 use Rattle.p4_types.specs.declared.messages.FieldMatchKind.{FieldMatchKind}
 use Rattle.p4_types.specs.declared.messages.FieldMatchKind.TheVariants as given
@@ -26,7 +27,6 @@ use Rattle.p4_types.specs.declared.messages.Param.{Param}
 use Rattle.p4_types.specs.declared.messages.TableAction.{TableAction}
 use Rattle.p4_types.specs.declared.messages.TableAction.TheVariants as actions
 use Rattle.p4_types.specs.declared.messages.TableEntry.{TableEntry}
-use Rattle.p4_types.specs.declared.messages.Update.{Update}
 use Rattle.p4_types.specs.declared.table.ActionCall.{ActionCall}
 use Rattle.p4_types.specs.declared.table.Change.{Change}
 use Rattle.p4_types.specs.declared.table.Change.TheVariants as changes
@@ -34,12 +34,13 @@ use Rattle.p4_types.specs.declared.table.EntryAction.{EntryAction}
 use Rattle.p4_types.specs.declared.table.EntryAction.TheVariants as entry_actions
 use Rattle.p4_types.specs.declared.table.EntryChange.{EntryChange}
 use Rattle.p4_types.specs.declared.table.EntryName.{EntryName}
+use Rattle.p4_types.specs.declared.table.WeightedCall.{WeightedCall}
 use Rattle.p4_types.specs.declared.keys.FieldTest.{FieldTest}
 use Rattle.p4_types.specs.declared.keys.FieldTest.TheVariants as tests
 use Rattle.p4_types.specs.declared.table.UpdateKind.{UpdateKind}
 use Rattle.p4_types.specs.declared.table.UpdateKind.TheVariants as kinds
 use Rattle.canon_bytes.specs.Bits.{bits, num}
-use Rattle.plane_spec.specs.Objects.{table_of, action_of, field_of}
+use Rattle.plane_spec.specs.Objects.{table_of, action_of, action_profile_of, field_of}
 
 -- whether a number stands twice in a list
 abbrev pub repeats : List ℕ → Bool
@@ -65,20 +66,27 @@ brings kinds.Insert = true
 brings kinds.Modify = true
 brings kinds.Delete = false
 
--- a known table that has an action profile
-abbrev pub has_profile : Option Table → Bool
-has_profile None = false
-has_profile (Some table) = is_some table.action_profile
-
 -- the number is 0
 abbrev pub is_zero : ℤ → Bool
 is_zero (pos n) = n == 0
 is_zero (negsuc n) = false
 
--- U2: an entry of a table with an action profile, which is not served yet; or an INSERT or MODIFY that gives what is not served
-abbrev pub is_unserved : Option Table → UpdateKind → TableEntry → Bool
-is_unserved table kind entry = has_profile table
-    || (brings kind && (entry.meter_config || is_some entry.counter_data || entry.time_since_last_hit || not (is_zero entry.idle_timeout_ns)))
+-- each byte is 0
+abbrev pub all_zero : List ℕ → Bool
+all_zero bytes = list_all (λ b. b == 0) bytes
+
+-- a member or an action that is to be watched: by a port's number, or by its bytes
+abbrev pub is_watched : ℕ → List ℕ → Bool
+is_watched watch port = not (watch == 0) || not (all_zero port)
+
+-- an action of the one-shot set that is given, if one is, is to be watched
+abbrev pub has_watch : Option (Option TableAction) → Bool
+has_watch (Some (Some (actions.ActionProfileActionSet set))) = list_any (λ action. is_watched action.watch action.watch_port) set.action_profile_actions
+has_watch _ = false
+
+-- U2: an INSERT or MODIFY that gives what is not served
+abbrev pub is_unserved : UpdateKind → TableEntry → Bool
+is_unserved kind entry = brings kind && (entry.meter_config || is_some entry.counter_data || entry.time_since_last_hit || not (is_zero entry.idle_timeout_ns) || has_watch entry.action)
 
 -- U4: the role's configuration, if it has one, has not this id
 abbrev pub is_foreign : Option (List ℕ) → ℕ → Bool
@@ -91,9 +99,9 @@ is_modify kinds.Modify = true
 is_modify kinds.Insert = false
 is_modify kinds.Delete = false
 
--- U5: an entry of a const table, its default entry included; a default entry under INSERT or DELETE, or of a table with a const default action
+-- U5: an entry of a const table, its default entry included; a default entry under INSERT or DELETE, or of a table with a const default action or an action profile
 abbrev pub is_fixed : Table → UpdateKind → TableEntry → Bool
-is_fixed table kind entry = table.is_const_table || (entry.is_default_action && (not (is_modify kind) || is_some table.const_default_action))
+is_fixed table kind entry = table.is_const_table || (entry.is_default_action && (not (is_modify kind) || is_some table.const_default_action || is_some table.action_profile))
 
 -- the two, where both are there
 abbrev pub both : {A B : Type 0} → Option A → Option B → Option (A × B)
@@ -134,10 +142,6 @@ is_optional _ = false
 -- a byte string of no bytes
 abbrev pub is_empty : List ℕ → Bool
 is_empty bytes = length bytes == 0
-
--- each byte is 0
-abbrev pub all_zero : List ℕ → Bool
-all_zero bytes = list_all (λ b. b == 0) bytes
 
 -- a prefix length from 1 to the width
 abbrev pub is_prefix_length : ℕ → ℤ → Bool
@@ -272,11 +276,65 @@ abbrev pub call_flaw : Info → Table → Bool → Action → Option Code
 call_flaw info table default call =
     if has_action table default call.action_id then argument_flaw (action_of call.action_id info) call.params else Some codes.InvalidArgument
 
--- Only a default entry may leave the action out. A table without an action profile takes a plain action.
+-- a table has the action, in an entry or as the default
+abbrev pub refers_in : ℕ → Option Table → Bool
+refers_in id None = false
+refers_in id (Some table) = list_any (λ ref. ref.id == id) table.action_refs
+
+-- every table of a profile has the action
+abbrev pub is_of_profile : Info → ActionProfile → ℕ → Bool
+is_of_profile info profile id = list_all (λ table. refers_in id (table_of table info)) profile.table_ids
+
+-- U9 on the action of a member or of a one-shot set: it is given, every table of the profile has it, and its arguments are right
+abbrev pub profile_call_flaw : Info → ActionProfile → Option Action → Option Code
+profile_call_flaw info profile None = Some codes.InvalidArgument
+profile_call_flaw info profile (Some call) =
+    if is_of_profile info profile call.action_id then argument_flaw (action_of call.action_id info) call.params else Some codes.InvalidArgument
+
+-- a weight from 1 to 65,535
+abbrev pub is_weight : ℤ → Bool
+is_weight (pos weight) = nat_le 1 weight && nat_le weight 65535
+is_weight (negsuc n) = false
+
+-- a code is that of a wrong argument, and not that of one that is too wide
+abbrev pub is_invalid : Option Code → Bool
+is_invalid (Some codes.InvalidArgument) = true
+is_invalid _ = false
+
+-- U9 on a one-shot set: 1 to 256 actions, each with a weight and right in itself; where only arguments are too wide, another code
+abbrev pub set_flaw : Info → ActionProfile → List ActionProfileAction → Option Code
+set_flaw info profile list =
+    if not (nat_le 1 (length list) && nat_le (length list) 256) then Some codes.InvalidArgument else
+    if not (list_all (λ action. is_weight action.weight) list) then Some codes.InvalidArgument else
+    if list_any (λ action. is_invalid (profile_call_flaw info profile action.action)) list then Some codes.InvalidArgument else
+    if list_any (λ action. is_some (profile_call_flaw info profile action.action)) list then Some codes.OutOfRange else None
+
+-- the action profile of a table, if it has one
+abbrev pub profile_of_table : Info → Table → Option ActionProfile
+profile_of_table info table = action_profile_of (unwrap_or table.action_profile 0) info
+
+-- U9 on an action under an action profile: a member; where the profile has a selector, a group or a one-shot set too; and no plain action
+abbrev pub chosen_flaw : Info → ActionProfile → TableAction → Option Code
+chosen_flaw info profile (actions.Action call) = Some codes.InvalidArgument
+chosen_flaw info profile (actions.ActionProfileMemberId id) = None
+chosen_flaw info profile (actions.ActionProfileGroupId id) = if profile.with_selector then None else Some codes.InvalidArgument
+chosen_flaw info profile (actions.ActionProfileActionSet set) = if profile.with_selector then set_flaw info profile set.action_profile_actions else Some codes.InvalidArgument
+
+-- U9 on an action in a table without an action profile: a plain one
+abbrev pub plain_flaw : Info → Table → Bool → TableAction → Option Code
+plain_flaw info table default (actions.Action call) = call_flaw info table default call
+plain_flaw info table default _ = Some codes.InvalidArgument
+
+-- the same by the table's profile, if it has one
+abbrev pub given_flaw : Info → Table → Bool → TableAction → Option ActionProfile → Option Code
+given_flaw info table default action None = plain_flaw info table default action
+given_flaw info table default action (Some profile) = chosen_flaw info profile action
+
+-- Only a default entry may leave the action out.
 abbrev pub action_flaw : Info → Table → Bool → Option (Option TableAction) → Option Code
 action_flaw info table default None = if default then None else Some codes.InvalidArgument
-action_flaw info table default (Some (Some (actions.Action call))) = call_flaw info table default call
-action_flaw info table default (Some _) = Some codes.InvalidArgument
+action_flaw info table default (Some None) = Some codes.InvalidArgument
+action_flaw info table default (Some (Some action)) = given_flaw info table default action (profile_of_table info table)
 
 -- a DELETE's action is not looked at
 abbrev pub brought_flaw : Info → Table → UpdateKind → TableEntry → Option Code
@@ -304,7 +362,7 @@ brought_flaw_in (Some table) info kind entry = brought_flaw info table kind entr
 -- The first rule of U2 to U9 that an update of an entry of this table breaks; these ask for the program alone.
 unfoldable pub entry_cause : Info → Option (List ℕ) → UpdateKind → TableEntry → Option Table → Option Cause
 entry_cause info scope kind entry table =
-    if is_unserved table kind entry then caused rules.U2 codes.Unimplemented else
+    if is_unserved kind entry then caused rules.U2 codes.Unimplemented else
     if is_none table then caused rules.U3 codes.NotFound else
     if is_foreign scope entry.table_id then caused rules.U4 codes.PermissionDenied else
     if in_table table (λ t. is_fixed t kind entry) then caused rules.U5 codes.InvalidArgument else
@@ -345,18 +403,44 @@ abbrev pub action_call : Option infos.Action → Action → ActionCall
 action_call None call = record { action = call.action_id; arguments = [] }
 action_call (Some action) call = record { action = call.action_id; arguments = map (λ param. number_in param.bitwidth (argument_of call.params param.id)) action.params }
 
+-- the call of an action of the program
+abbrev pub call_in : Info → Action → ActionCall
+call_in info call = action_call (action_of call.action_id info) call
+
 -- the plain action that is given, if one is
 abbrev pub given_call : Info → Option (Option TableAction) → Option ActionCall
-given_call info (Some (Some (actions.Action call))) = Some (action_call (action_of call.action_id info) call)
+given_call info (Some (Some (actions.Action call))) = Some (call_in info call)
 given_call info _ = None
 
 -- what stands for an action that is not given
 abbrev pub no_call : ActionCall
 no_call = record { action = 0; arguments = [] }
 
--- what an entry does by the action that is given
-abbrev pub given_action : Info → Option (Option TableAction) → EntryAction
-given_action info action = entry_actions.Call (unwrap_or (given_call info action) no_call)
+-- the call of an action that is given, or what stands for it
+abbrev pub call_by : Info → Option Action → ActionCall
+call_by info None = no_call
+call_by info (Some call) = call_in info call
+
+-- an action of a one-shot set
+abbrev pub weighted_call : Info → ActionProfileAction → WeightedCall
+weighted_call info action = record { call = call_by info action.action; weight = natural action.weight }
+
+-- what an entry does by the action that is given, in a table of this profile
+abbrev pub action_by : Info → ℕ → TableAction → EntryAction
+action_by info profile (actions.Action call) = entry_actions.Call (call_in info call)
+action_by info profile (actions.ActionProfileMemberId id) = entry_actions.Member profile id
+action_by info profile (actions.ActionProfileGroupId id) = entry_actions.Group profile id
+action_by info profile (actions.ActionProfileActionSet set) = entry_actions.Set profile (map (weighted_call info) set.action_profile_actions)
+
+-- the same, where an action may not be given
+abbrev pub given_action : Info → ℕ → Option (Option TableAction) → EntryAction
+given_action info profile (Some (Some action)) = action_by info profile action
+given_action info profile _ = entry_actions.Call no_call
+
+-- the action profile of a table, if there is one; ids begin at 1, so that 0 names none
+abbrev pub profile_in : Option Table → ℕ
+profile_in None = 0
+profile_in (Some table) = unwrap_or table.action_profile 0
 
 -- the change of an entry by the type of its update; a DELETE needs only the name
 abbrev pub change_by : UpdateKind → EntryChange → Change
@@ -368,7 +452,7 @@ change_by kinds.Delete brought = changes.DeleteEntry brought.name
 abbrev pub entry_change : Info → Option Table → UpdateKind → TableEntry → Change
 entry_change info table kind entry =
     if entry.is_default_action then changes.ModifyDefault entry.table_id (given_call info entry.action)
-    else change_by kind (record { name = name_of table entry; controller_metadata = entry.controller_metadata; action = given_action info entry.action })
+    else change_by kind (record { name = name_of table entry; controller_metadata = entry.controller_metadata; action = given_action info (profile_in table) entry.action })
 
 -- a change, unless there is a cause against it
 abbrev pub unless : Option Cause → Change → Result Change Cause
@@ -378,19 +462,3 @@ unless (Some cause) change = Err cause
 -- an update of a table entry: the first rule of U2 to U9 that it breaks, or what it changes
 abbrev pub entry_resolution : Info → Option (List ℕ) → UpdateKind → TableEntry → Option Table → Result Change Cause
 entry_resolution info scope kind entry table = unless (entry_cause info scope kind entry table) (entry_change info table kind entry)
-
--- U2: an entity of another kind is not served yet
-abbrev pub entity_resolution : Info → Option (List ℕ) → UpdateKind → Entity → Result Change Cause
-entity_resolution info scope kind (entities.TableEntry entry) = entry_resolution info scope kind entry (table_of entry.table_id info)
-entity_resolution info scope kind _ = Err (record { rule = rules.U2; code = codes.Unimplemented })
-
--- U1: another type than INSERT, MODIFY and DELETE, or no entity
-abbrev pub resolution_by : Info → Option (List ℕ) → Option UpdateKind → Option Entity → Result Change Cause
-resolution_by info scope (Some kind) (Some entity) = entity_resolution info scope kind entity
-resolution_by info scope (Some kind) None = Err (record { rule = rules.U1; code = codes.InvalidArgument })
-resolution_by info scope None entity = Err (record { rule = rules.U1; code = codes.InvalidArgument })
-
--- What an update changes under a program, by a role whose configuration has these ids or that has none; or the first
--- rule of U1 to U9 that it breaks. U10 to U12 ask for the state.
-unfoldable pub resolution : Info → Option (List ℕ) → Update → Result Change Cause
-resolution info scope update = resolution_by info scope (update_kind update.kind) update.entity

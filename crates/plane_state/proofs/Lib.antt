@@ -1,2 +1,4 @@
+pub mod Refusing
+pub mod Counting
 pub mod Rises
 pub mod Tables

@@ -1,36 +1,35 @@
 //! Planes.
-ghost use Rattle.std.specs.Prelude.{◌≡◌, ◌<◌, [], All, None, IfOk, OnOk, OnErr};
+ghost use Rattle.std.specs.Prelude.{◌≡◌, ◌<◌, All, map, IfOk, OnOk};
 ghost use Rattle.std.specs.Option.{option_map};
 ghost use Rattle.plane_spec.specs.Entries.{next_number};
-ghost use Rattle.plane_spec.specs.Objects.{table_of};
-ghost use Rattle.plane_spec.specs.Planes.{made_plane, change_cause, insert_cause_in, with_default, default_in, default_entry};
-ghost use Rattle.plane_state.specs.Versions.{insert_after, plane_after, drawn_by_insert, drawn_by};
+ghost use Rattle.plane_spec.specs.Planes.{made_plane, change_cause, default_in, default_entry, digest_in, rows_of};
+ghost use Rattle.plane_state.specs.Answers.{WithoutMemory, WhereRefused};
+ghost use Rattle.plane_state.specs.Versions.{plane_after, drawn_by};
+ghost use Rattle.profile_store.specs.Rows.{members_of, groups_of};
 ghost use Rattle.table_store.specs.Answers.{Refuses};
 
 use crate::config::Config;
-use crate::defaults;
+use crate::parts::{Drawn, Parts};
+use crate::{defaults, digests};
 use list_types::Refusal;
-use p4_types::code::{Cause, Code, Rule};
+use p4_types::code::Cause;
+use p4_types::messages::DigestEntry;
 use p4_types::shared::Shared;
-use p4_types::table::{ActionCall, Change, DefaultAction, EntryChange, Room};
+use p4_types::table::{Change, DefaultAction, Room};
+use profile_store::ProfileStore;
 use std::alloc::Global;
 use std::marker::Model;
-use table_store::{TableStore, slots_drawn};
-use undo_vec::UndoVec;
+use table_store::TableStore;
 
 /// A program with what is written to it, whose changes can be undone until they are kept. Contracts see it as it is,
 /// and as it was before the changes that can be undone.
 #[derive(Drop)]
 pub struct Plane {
-    config: Shared<Config>,
-    store: TableStore,
-    changed: UndoVec<DefaultAction>,
-    cells: u32,
+    parts: Parts,
 }
 
 impl Model for Plane {
-    ghost use Rattle.plane_state.specs.Versions.{PlaneVersions, IsPlane};
-    ghost use Rattle.std.specs.Prelude.{[]};
+    ghost use Rattle.plane_state.specs.Versions.{PlaneVersions, AreCounted};
     ghost use Rattle.bm_expr.specs.TreeCode.{number_code, truth_code};
     ghost use Rattle.std.specs.Coded.{codes};
 
@@ -38,28 +37,10 @@ impl Model for Plane {
 
     ghost Value = { PlaneVersions };
 
-    ghost view = { λ p. record {
-      now = record { config = p.config; entries = p.store.entries; changed = p.changed.items; members = []; groups = []; digests = []; cells = p.cells };
-      before = record { config = p.config; entries = p.store.before; changed = p.changed.before; members = []; groups = []; digests = []; cells = p.cells };
-    } };
+    ghost view = { λ p. record { now = p.parts.now.plane; before = p.parts.before.plane } };
 
-    ghost invariant = { λ p. IsPlane (record {
-      now = record { config = p.config; entries = p.store.entries; changed = p.changed.items; members = []; groups = []; digests = []; cells = p.cells };
-      before = record { config = p.config; entries = p.store.before; changed = p.changed.before; members = []; groups = []; digests = []; cells = p.cells };
-    }) };
+    ghost invariant = { λ p. AreCounted p.parts };
 }
-
-/// What a change draws: sequence numbers, and slots of counters.
-#[derive(Clone, Copy)]
-pub struct Drawn {
-    pub numbers: u64,
-    pub slots: u32,
-}
-
-const NOTHING: Drawn = Drawn {
-    numbers: 0,
-    slots: 0,
-};
 
 impl Plane {
     /// A plane of a configuration with nothing written, whose cells have the slots from this one on. It takes no memory.
@@ -68,33 +49,52 @@ impl Plane {
         ensures before { result.before ≡ made_plane cells config }
     {
         Plane {
-            config,
-            store: TableStore::open(alloc),
-            changed: UndoVec::new(alloc),
-            cells,
+            parts: Parts::open(alloc, config, cells),
         }
     }
 
     pub fn config(&self) -> &Config
         ensures { result.now ≡ self.now.now.config }
     {
-        self.config.get()
+        self.parts.config.get()
     }
 
     /// The entries of its tables.
     pub fn store(&self) -> &TableStore
         ensures { result.now.entries ≡ self.now.now.entries }
     {
-        &self.store
+        &self.parts.store
+    }
+
+    /// The members and groups of its action profiles.
+    pub fn profiles(&self) -> &ProfileStore
+        ensures members { members_of result.now.now ≡ self.now.now.members }
+        ensures groups { groups_of result.now.now ≡ self.now.now.groups }
+    {
+        &self.parts.profiles
+    }
+
+    /// The digest entries, by rising id.
+    pub fn digests(&self) -> &[DigestEntry]
+        ensures { result.now ≡ self.now.now.digests }
+    {
+        self.parts.digests.as_slice()
+    }
+
+    /// The entry of a digest, if it has one.
+    pub fn digest(&self, digest: u32) -> Option<&DigestEntry>
+        ensures { option_map (λ entry. entry.now) result ≡ digest_in digest self.now.now.digests }
+    {
+        digests::digest_in(self.parts.digests.as_slice(), digest)
     }
 
     /// The default entry of a table that a Read shows: the changed one, else the program's own, if it has one.
     pub fn default_entry(&self, table: u32) -> Option<&DefaultAction>
         ensures { option_map (λ default. default.now) result ≡ default_entry self.now.now table }
     {
-        match defaults::default_in(self.changed.as_slice(), table) {
+        match defaults::default_in(self.parts.changed.as_slice(), table) {
             Some(default) => Some(default),
-            None => defaults::default_in(self.config.get().defaults(), table),
+            None => defaults::default_in(self.parts.config.get().defaults(), table),
         }
     }
 
@@ -102,72 +102,25 @@ impl Plane {
     pub fn changed_default(&self, table: u32) -> Option<&DefaultAction>
         ensures { option_map (λ default. default.now) result ≡ default_in table self.now.now.changed }
     {
-        defaults::default_in(self.changed.as_slice(), table)
+        defaults::default_in(self.parts.changed.as_slice(), table)
     }
 
     /// The slot of the first cell of its indirect counters.
     pub fn cells(&self) -> u32
         ensures { result ≡ self.now.now.cells }
     {
-        self.cells
+        self.parts.cells
     }
 
-    /// Members, groups and digest entries cannot be written yet, so that a plane has none. It does nothing.
-    pub fn has_entries_alone(&self)
-        ensures members { self.now.now.members ≡ [] }
-        ensures groups { self.now.now.groups ≡ [] }
-        ensures digests { self.now.now.digests ≡ [] }
+    /// How many rows all that is written takes.
+    pub fn rows(&self) -> u64
+        ensures { result ≡ rows_of self.now.now }
     {
-        let _ = &self.config;
+        self.parts.rows
     }
 
-    fn insert(
-        &mut self,
-        alloc: Global,
-        room: Room,
-        change: &EntryChange,
-    ) -> Result<Drawn, Refusal<Cause>>
-        requires above { All (λ entry. entry.seq < next_number room) self.old.now.entries }
-        ensures refused { Refuses result (insert_cause_in (table_of change.now.name.table self.old.now.config.info) room self.old.now change.now) }
-        ensures ok { OnOk result (self.new.now ≡ insert_after (table_of change.now.name.table self.old.now.config.info) room self.old.now change.now) }
-        ensures drawn { IfOk result (λ drawn. drawn ≡ drawn_by_insert (table_of change.now.name.table self.old.now.config.info)) }
-        ensures err { OnErr result (self.new.now ≡ self.old.now) }
-        ensures before { self.new.before ≡ self.old.before }
-    {
-        let Some(table) = self.config.get().info().table(change.name.table) else {
-            return Err(Refusal::For(Cause {
-                rule: Rule::U3,
-                code: Code::NotFound,
-            }));
-        };
-        self.store.insert(alloc, table, change, room)?;
-        Ok(Drawn {
-            numbers: 1,
-            slots: slots_drawn(table),
-        })
-    }
-
-    fn set_default(
-        &mut self,
-        table: u32,
-        action: &Option<ActionCall>,
-    ) -> Result<Drawn, Refusal<Cause>>
-        ensures refused { Refuses result None }
-        ensures ok { OnOk result (self.new.now ≡ record self.old.now { changed = with_default table action.now self.old.now.changed }) }
-        ensures drawn { IfOk result (λ drawn. drawn ≡ record { numbers = 0; slots = 0 }) }
-        ensures err { OnErr result (self.new.now ≡ self.old.now) }
-        ensures before { self.new.before ≡ self.old.before }
-    {
-        let action = match action {
-            Some(call) => Some(call.copy()),
-            None => None,
-        };
-        defaults::set(&mut self.changed, table, action)?;
-        Ok(NOTHING)
-    }
-
-    /// Makes a change, with what is left to be drawn; refused for its cause (U10, U12), or for want of memory, and then
-    /// the plane is as it was.
+    /// Makes a change, with what is left to be drawn; refused for its cause (U10 to U12), and then the plane is as it was,
+    /// or for want of memory, and then all changes are undone.
     pub fn change(
         &mut self,
         alloc: Global,
@@ -178,21 +131,15 @@ impl Plane {
         ensures refused { Refuses result (change_cause room self.old.now change.now) }
         ensures ok { OnOk result (self.new.now ≡ plane_after room self.old.now change.now) }
         ensures drawn { IfOk result (λ drawn. drawn ≡ drawn_by self.old.now change.now) }
-        ensures err { OnErr result (self.new.now ≡ self.old.now) }
+        ensures stays { WhereRefused result (self.new.now ≡ self.old.now) }
+        ensures undone { WithoutMemory result (self.new.now ≡ self.old.before) }
         ensures before { self.new.before ≡ self.old.before }
     {
-        match change {
-            Change::InsertEntry(entry) => self.insert(alloc, room, entry),
-            Change::ModifyEntry(entry) => {
-                self.store.modify(entry)?;
-                Ok(NOTHING)
-            }
-            Change::DeleteEntry(name) => {
-                self.store.delete(name)?;
-                Ok(NOTHING)
-            }
-            Change::ModifyDefault { table, action } => self.set_default(*table, action),
+        let made = self.parts.change(alloc, room, change);
+        if let Err(Refusal::NoMemory) = made {
+            self.parts.undo();
         }
+        made
     }
 
     /// Keeps all changes: they can no longer be undone. It takes no memory.
@@ -200,8 +147,7 @@ impl Plane {
         ensures now { self.new.now ≡ self.old.now }
         ensures before { self.new.before ≡ self.old.now }
     {
-        self.store.keep();
-        self.changed.settle();
+        self.parts.keep();
     }
 
     /// Undoes all changes. It takes no memory.
@@ -209,7 +155,6 @@ impl Plane {
         ensures now { self.new.now ≡ self.old.before }
         ensures before { self.new.before ≡ self.old.before }
     {
-        self.store.undo();
-        self.changed.undo();
+        self.parts.undo();
     }
 }

@@ -1,6 +1,9 @@
 -- Sequence numbers of a store that is filled.
 use Rattle.std.proofs.Common.{◌≡◌, ℕ, ◌+◌, ◌<◌, List, All, Option, Some, None, Result, Ok, Err, OnOk, OnErr, sym, subst, arith}
 use Rattle.std.proofs.lemmas.List.Elements.{All-filter, All-append, All-cons, All-weaker}
+use Rattle.list_types.specs.declared.memory.Refusal.{Refusal}
+use Rattle.list_types.specs.declared.memory.Refusal.TheVariants as refusals
+use Rattle.p4_types.specs.declared.code.Cause.{Cause}
 use Rattle.p4_types.specs.declared.info.Table.{Table}
 use Rattle.p4_types.specs.declared.table.Entry.{Entry}
 use Rattle.p4_types.specs.declared.table.EntryChange.{EntryChange}
@@ -8,6 +11,7 @@ use Rattle.p4_types.specs.declared.table.Room.{Room}
 use Rattle.plane_spec.specs.Entries.{new_entry, next_number, inserted}
 use Rattle.plane_spec.specs.Objects.{table_of}
 use Rattle.plane_spec.specs.Planes.{Plane}
+use Rattle.plane_state.specs.Answers.{WhereRefused, WithoutMemory}
 use Rattle.plane_state.specs.Versions.{insert_after}
 
 -- an entry's number is below
@@ -38,10 +42,15 @@ below_after : (o : Option Table) (n : ℕ) (room : Room) (plane : Plane) (change
 below_after None n room plane change is h = weaker n plane.entries h
 below_after (Some table) n room plane change is h = below_inserted n table room change plane.entries is h
 
--- so it is in a plane
-pub below_plane : {A B : Type 0} (r : Result A B) (n : ℕ) (room : Room) (old new : Plane) (change : EntryChange) → next_number room ≡ 1 + n
-    → All (Below (1 + n)) old.entries → OnOk r (new ≡ insert_after (table_of change.name.table old.config.info) room old change) → OnErr r (new ≡ old) → All (Below (2 + n)) new.entries
-below_plane (Ok x) n room old new change is h ok err =
+-- so it is in a plane, which goes back to what it was before where there is no memory
+pub below_plane : {A : Type 0} (r : Result A (Refusal Cause)) (n : ℕ) (room : Room) (old before new : Plane) (change : EntryChange) → next_number room ≡ 1 + n
+    → All (Below (1 + n)) old.entries → All (Below (1 + n)) before.entries → OnOk r (new ≡ insert_after (table_of change.name.table old.config.info) room old change)
+    → WhereRefused r (new ≡ old) → WithoutMemory r (new ≡ before) → All (Below (2 + n)) new.entries
+below_plane (Ok x) n room old before new change is h k ok stays undone =
     let P : Plane → Type 0 = λ plane. All (Below (2 + n)) plane.entries in
     subst P (sym ok) (below_after (table_of change.name.table old.config.info) n room old change is h)
-below_plane (Err e) n room old new change is h ok err = let P : Plane → Type 0 = λ plane. All (Below (2 + n)) plane.entries in subst P (sym err) (weaker n old.entries h)
+below_plane (Err refusals.NoMemory) n room old before new change is h k ok stays undone = let P : Plane → Type 0 = λ plane. All (Below (2 + n)) plane.entries in subst P (sym undone) (weaker n before.entries k)
+below_plane (Err (refusals.For cause)) n room old before new change is h k ok stays undone = let P : Plane → Type 0 = λ plane. All (Below (2 + n)) plane.entries in subst P (sym stays) (weaker n old.entries h)
+
+pub former_plane : (n : ℕ) (old new : Plane) → new ≡ old → All (Below (1 + n)) old.entries → All (Below (2 + n)) new.entries
+former_plane n old new same h = let P : Plane → Type 0 = λ plane. All (Below (2 + n)) plane.entries in subst P (sym same) (weaker n old.entries h)

@@ -1,10 +1,11 @@
 //! Measures what only shows inside of the process. The word `counters` measures the counters that threads share,
-//! `packets` the reading of fields and the value of expressions, `blocks` the decoding of header blocks, `tables`
-//! look-ups in a table of routes and changes beside it, `router` the stages of one packet and its whole run, by a
+//! `packets` the reading of fields and the value of expressions, `blocks` the decoding of header blocks, `connections`
+//! the bytes of an HTTP/2 connection in pieces, `tables` look-ups in a table of routes and changes beside it, `router` the stages of one packet and its whole run, by a
 //! program whose ForwardingPipelineConfig stands on standard input.
 #![tactic(auto)]
 
 mod blocks;
+mod connections;
 mod counters;
 mod packets;
 mod router;
@@ -36,6 +37,18 @@ fn tell_blocks(rt: HostRuntime) -> io::Result<()> {
         "a first request: {} nanoseconds, the next ones: {} ({} headers)",
         first.nanoseconds, next.nanoseconds, first.headers
     )
+}
+
+fn tell_connections(rt: HostRuntime) -> io::Result<()> {
+    let bytes = connections::bytes_of_client(&rt, &blocks::FIRST_REQUEST)?;
+    for size in [1, 100, 16_384, 2_097_152] {
+        let took = connections::measure(&rt, &bytes, size)?;
+        println!(rt;
+            "pieces of {size} bytes: {} hundredths of a nanosecond a byte ({} events)",
+            took.hundredths, took.events
+        )?;
+    }
+    Ok(())
 }
 
 fn tell_tables(rt: HostRuntime) -> io::Result<()> {
@@ -108,6 +121,9 @@ fn main(rt: HostRuntime) -> io::Result<()> {
     if word.as_str() == "blocks" {
         return tell_blocks(rt);
     }
+    if word.as_str() == "connections" {
+        return tell_connections(rt);
+    }
     if word.as_str() == "packets" {
         return tell_packets(rt);
     }
@@ -119,7 +135,7 @@ fn main(rt: HostRuntime) -> io::Result<()> {
     }
     if word.as_str() != "counters" {
         return println!(rt;
-            "speed blocks\nspeed counters\nspeed packets\nspeed router\nspeed tables"
+            "speed blocks\nspeed connections\nspeed counters\nspeed packets\nspeed router\nspeed tables"
         );
     }
     for apart in [0, 262_144] {

@@ -64,7 +64,9 @@ fn route(table: u32, action: u32, number: u32) -> EntryChange {
 // Puts an entry in, which draws this sequence number.
 fn put(alloc: Global, plane: &mut Plane, change: EntryChange, number: u32) -> bool
     requires below { All (λ entry. entry.seq < 1 + number) plane.old.now.entries }
+    requires former { All (λ entry. entry.seq < 1 + number) plane.old.before.entries }
     ensures below { All (λ entry. entry.seq < 2 + number) plane.new.now.entries }
+    ensures former { All (λ entry. entry.seq < 2 + number) plane.new.before.entries }
 {
     let room = Room {
         rows: 1,
@@ -79,6 +81,7 @@ fn put(alloc: Global, plane: &mut Plane, change: EntryChange, number: u32) -> bo
 // Puts so many routes in. How many were put in.
 fn fill(alloc: Global, plane: &mut Plane, table: u32, action: u32, routes: u32) -> u32
     requires below { All (λ entry. entry.seq < 1) plane.old.now.entries }
+    requires former { All (λ entry. entry.seq < 1) plane.old.before.entries }
 {
     let mut put_in = 0u32;
     for number in 0..routes {

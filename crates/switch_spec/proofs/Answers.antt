@@ -130,14 +130,18 @@ entry_available true true o h = refl
 entry_available true false o h = tt
 entry_available false b o h = h
 
+id_available : (known : Bool) → Available (if known then None else Some codes.NotFound)
+id_available true = tt
+id_available false = refl
+
 entity_available : (info : Info) (asked : Option Entity) → Available (entity_refusal info asked)
 entity_available info None = refl
 entity_available info (Some (entities.TableEntry asked)) = entry_available _ _ _ (in_available (table_of asked.table_id info) asked)
-entity_available info (Some (entities.ActionProfileMember x)) = refl
-entity_available info (Some (entities.ActionProfileGroup x)) = refl
+entity_available info (Some (entities.ActionProfileMember x)) = id_available _
+entity_available info (Some (entities.ActionProfileGroup x)) = id_available _
 entity_available info (Some (entities.CounterEntry x)) = refl
 entity_available info (Some (entities.DirectCounterEntry x)) = refl
-entity_available info (Some (entities.DigestEntry x)) = refl
+entity_available info (Some (entities.DigestEntry x)) = id_available _
 entity_available info (Some (entities.Other x)) = refl
 
 first_more : (o : Option Code) (others : List (Option Code)) → Available o → Available (first_of others) → Available (first_of (o ∷ others))

@@ -25,7 +25,8 @@ use Rattle.program_spec.specs.Parsing.{parse, taken}
 use Rattle.switch_spec.specs.Play.{Turn, items_of, answering, play, played, played_report}
 use Rattle.switch_spec.specs.Reading.{chunks, read_result}
 use Rattle.switch_spec.specs.Status.{status_bytes, detail_of, write_status, capabilities_bytes}
-use Rattle.plane_spec.specs.UpdateRules.{entry_cause, resolution}
+use Rattle.plane_spec.specs.UpdateRules.{entry_cause}
+use Rattle.plane_spec.specs.Updates.{resolution}
 use Rattle.wire_fields.specs.Reading.{varint_in, bytes_at as length_bytes_at, tag_at, field_at}
 use Rattle.wire_fields.specs.Spelling.{varint_from}
 use Rattle.p4v1_wire.specs.ResponseRows.{capabilities_response_rows}

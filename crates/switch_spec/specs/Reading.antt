@@ -1,5 +1,5 @@
 -- What a Read selects, and how it is answered (P4Runtime 1.3.0, "Read RPC"; order and size of the messages: this project's profile).
-use Rattle.std.specs.Prelude.{ℕ, zero, suc, ◌-◌, ◌^◌, min, ℤ, pos, ◌==◌, ◌&&◌, ◌||◌, not, nat_lt, nat_le, Bool, true, false, if◌then◌else◌, List, [], ◌∷◌, map, filter, fold, take, drop, length, Option, Some, None, option_map, Result, Ok, Err}
+use Rattle.std.specs.Prelude.{ℕ, zero, suc, ◌-◌, ◌^◌, min, ℤ, pos, ◌==◌, ◌&&◌, ◌||◌, not, nat_lt, nat_le, Bool, true, false, if◌then◌else◌, List, [], ◌∷◌, map, filter, fold, take, drop, length, Option, Some, None, is_some, option_map, Result, Ok, Err}
 use Rattle.std.specs.List.{filter_map, flat_map, zip}
 use Rattle.std.specs.Ordering.{int_eq}
 use Rattle.p4_types.specs.declared.code.Code.{Code}
@@ -9,21 +9,30 @@ use Rattle.p4_types.specs.declared.info.Info.{Info}
 use Rattle.p4_types.specs.declared.info.MatchField.{MatchField}
 use Rattle.p4_types.specs.declared.info.Table.{Table}
 use Rattle.p4_types.specs.declared.messages.Action.{Action}
+use Rattle.p4_types.specs.declared.messages.ActionProfileAction.{ActionProfileAction}
+use Rattle.p4_types.specs.declared.messages.ActionProfileGroup.{ActionProfileGroup}
+use Rattle.p4_types.specs.declared.messages.ActionProfileMember.{ActionProfileMember}
+use Rattle.p4_types.specs.declared.messages.DigestEntry.{DigestEntry}
 use Rattle.p4_types.specs.declared.messages.Entity.{Entity}
 use Rattle.p4_types.specs.declared.messages.Entity.TheVariants as entities
 use Rattle.p4_types.specs.declared.messages.FieldMatch.{FieldMatch}
 use Rattle.p4_types.specs.declared.messages.FieldMatchKind.{FieldMatchKind}
 use Rattle.p4_types.specs.declared.messages.FieldMatchKind.TheVariants as given
+use Rattle.p4_types.specs.declared.messages.Member as messages
 use Rattle.p4_types.specs.declared.messages.Param.{Param}
 use Rattle.p4_types.specs.declared.messages.ReadRequest.{ReadRequest}
 use Rattle.p4_types.specs.declared.messages.TableAction.{TableAction}
 use Rattle.p4_types.specs.declared.messages.TableAction.TheVariants as actions
 use Rattle.p4_types.specs.declared.messages.TableEntry.{TableEntry}
+use Rattle.p4_types.specs.declared.profiles.Group.{Group}
+use Rattle.p4_types.specs.declared.profiles.Member.{Member}
+use Rattle.p4_types.specs.declared.profiles.Share.{Share}
 use Rattle.p4_types.specs.declared.table.ActionCall.{ActionCall}
 use Rattle.p4_types.specs.declared.table.DefaultAction.{DefaultAction}
 use Rattle.p4_types.specs.declared.table.Entry.{Entry}
 use Rattle.p4_types.specs.declared.table.EntryAction.{EntryAction}
 use Rattle.p4_types.specs.declared.table.EntryAction.TheVariants as entry_actions
+use Rattle.p4_types.specs.declared.table.WeightedCall.{WeightedCall}
 use Rattle.p4_types.specs.declared.keys.FieldTest.{FieldTest}
 use Rattle.p4_types.specs.declared.keys.FieldTest.TheVariants as tests
 use Rattle.canon_bytes.specs.ByteString.{canon}
@@ -32,7 +41,7 @@ use Rattle.p4v1_wire.specs.Rows.{fields_by}
 use Rattle.wire_fields.specs.Spelling.{spelling}
 use Rattle.plane_spec.specs.Planes.{Control, Plane, target, default_entry}
 use Rattle.plane_spec.specs.Entries.{same_name}
-use Rattle.plane_spec.specs.Objects.{table_of, action_of}
+use Rattle.plane_spec.specs.Objects.{table_of, action_of, action_profile_of, digest_of}
 use Rattle.plane_spec.specs.UpdateRules.{is_zero, is_optional, has_match, is_malformed_match, is_too_wide, is_canonical_match, name_of}
 
 -- a match breaks U6, U7 or U8 in its own part
@@ -54,9 +63,16 @@ entry_refusal info asked =
     if asked.table_id == 0 then (if has_match asked then Some codes.InvalidArgument else None)
     else entry_refusal_in (table_of asked.table_id info) asked
 
--- why an entity that is asked for is refused; other kinds than table entries are not served yet
+-- why an id that is asked for is refused: it is not 0, and there is no such object
+abbrev pub id_refusal : ℕ → Bool → Option Code
+id_refusal id known = if (id == 0) || known then None else Some codes.NotFound
+
+-- why an entity that is asked for is refused; counters are not served yet
 abbrev pub entity_refusal : Info → Option Entity → Option Code
 entity_refusal info (Some (entities.TableEntry asked)) = entry_refusal info asked
+entity_refusal info (Some (entities.ActionProfileMember asked)) = id_refusal asked.action_profile_id (is_some (action_profile_of asked.action_profile_id info))
+entity_refusal info (Some (entities.ActionProfileGroup asked)) = id_refusal asked.action_profile_id (is_some (action_profile_of asked.action_profile_id info))
+entity_refusal info (Some (entities.DigestEntry asked)) = id_refusal asked.digest_id (is_some (digest_of asked.digest_id info))
 entity_refusal info _ = Some codes.Unimplemented
 
 -- the first that there is
@@ -112,11 +128,32 @@ params_in (Some action) arguments = by_rising (λ p. p.param_id) (map (λ x. par
 abbrev pub shown_action : Info → ActionCall → Action
 shown_action info call = record { action_id = call.action; params = params_in (action_of call.action info) call.arguments }
 
+-- a weight as a number of its type (int32); those that are written are far below its greatest
+abbrev pub weight_number : ℕ → ℤ
+weight_number weight = pos (min weight (2 ^ 31 - 1))
+
+-- an action of a one-shot set as it is answered; what it watches is not kept
+abbrev pub shown_weighted : Info → WeightedCall → ActionProfileAction
+shown_weighted info action = record { action = Some (shown_action info action.call); weight = weight_number action.weight; watch = 0; watch_port = [] }
+
 -- what an entry does as it is answered
 abbrev pub shown_entry_action : Info → EntryAction → TableAction
 shown_entry_action info (entry_actions.Call call) = actions.Action (shown_action info call)
-shown_entry_action info (entry_actions.Member id) = actions.ActionProfileMemberId id
-shown_entry_action info (entry_actions.Group id) = actions.ActionProfileGroupId id
+shown_entry_action info (entry_actions.Member profile id) = actions.ActionProfileMemberId id
+shown_entry_action info (entry_actions.Group profile id) = actions.ActionProfileGroupId id
+shown_entry_action info (entry_actions.Set profile calls) = actions.ActionProfileActionSet (record { action_profile_actions = map (shown_weighted info) calls })
+
+-- a member as it is answered
+abbrev pub shown_member : Info → Member → ActionProfileMember
+shown_member info member = record { action_profile_id = member.profile; member_id = member.id; action = Some (shown_action info member.call) }
+
+-- a share of a group as it is answered; what it watches is not kept
+abbrev pub shown_share : Share → messages.Member
+shown_share share = record { member_id = share.member; weight = weight_number share.weight; watch = 0; watch_port = [] }
+
+-- a group as it is answered; its greatest size is not kept
+abbrev pub shown_group : Group → ActionProfileGroup
+shown_group group = record { action_profile_id = group.profile; group_id = group.id; members = map shown_share group.shares; max_size = pos 0 }
 
 -- an entry of this table, match, priority and action, and nothing else
 abbrev pub plain_entry : ℕ → List FieldMatch → ℤ → TableAction → TableEntry
@@ -173,9 +210,29 @@ selected_entries plane asked =
     if asked.is_default_action then selected_defaults plane asked
     else map (shown_entry plane.config.info) (filter (selects (table_of asked.table_id plane.config.info) asked) plane.entries)
 
--- what is answered for an entity that is asked for; for other kinds than table entries nothing
+-- an object that is asked for by its id: the one of that id, or any where the id is 0
+abbrev pub is_asked_id : ℕ → ℕ → Bool
+is_asked_id asked id = (asked == 0) || (id == asked)
+
+-- the members that are asked for, by profile and id, each as it is answered
+abbrev pub selected_members : Plane → ActionProfileMember → List ActionProfileMember
+selected_members plane asked =
+    map (shown_member plane.config.info) (filter (λ member. is_asked_id asked.action_profile_id member.profile && is_asked_id asked.member_id member.id) plane.members)
+
+-- the groups that are asked for, in the same way
+abbrev pub selected_groups : Plane → ActionProfileGroup → List ActionProfileGroup
+selected_groups plane asked = map shown_group (filter (λ group. is_asked_id asked.action_profile_id group.profile && is_asked_id asked.group_id group.id) plane.groups)
+
+-- the digest entries that are asked for
+abbrev pub selected_digests : Plane → DigestEntry → List DigestEntry
+selected_digests plane asked = filter (λ entry. is_asked_id asked.digest_id entry.digest_id) plane.digests
+
+-- what is answered for an entity that is asked for; for counters nothing yet
 abbrev pub selected : Plane → Option Entity → List Entity
 selected plane (Some (entities.TableEntry asked)) = map entities.TableEntry (selected_entries plane asked)
+selected plane (Some (entities.ActionProfileMember asked)) = map entities.ActionProfileMember (selected_members plane asked)
+selected plane (Some (entities.ActionProfileGroup asked)) = map entities.ActionProfileGroup (selected_groups plane asked)
+selected plane (Some (entities.DigestEntry asked)) = map entities.DigestEntry (selected_digests plane asked)
 selected plane _ = []
 
 -- Messages of at most 1,024 entities, all but the last full. No entities are one message.

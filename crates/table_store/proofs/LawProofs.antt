@@ -12,7 +12,7 @@ use Rattle.plane_spec.specs.Entries.{same_name, hits, beats}
 use Rattle.table_store.specs.Laws.{NamesTell, BestWins, NoneIsBest, OneBeats}
 use Rattle.table_store.proofs.Bests.{scanned, best_is_scanned}
 use Rattle.table_store.proofs.Lists.{filter_none}
-use Rattle.table_store.proofs.Names.{names_equal, name_is_same}
+use Rattle.plane_spec.proofs.Names.{names_equal, name_is_same}
 use Rattle.table_store.proofs.Ranks.{beats_ranks, one_beats_other}
 
 pub names_tell : NamesTell

@@ -4,7 +4,6 @@ pub mod ByTable
 pub mod Undo
 pub mod LawProofs
 pub mod Lists
-pub mod Names
 pub mod OfTable
 pub mod OneTable
 pub mod Orders

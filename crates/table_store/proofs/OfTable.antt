@@ -18,7 +18,7 @@ use Rattle.plane_spec.specs.Entries.{same_name, entry_named, hits, beats, best, 
 use Rattle.table_store.specs.Groups.{IsFresh}
 use Rattle.table_store.proofs.Lists.{find_filter, filter_filter}
 use Rattle.table_store.proofs.OneTable.{one}
-use Rattle.table_store.proofs.Names.{names_equal, name_is_same, itself, both}
+use Rattle.plane_spec.proofs.Names.{names_equal, name_is_same, itself, both}
 
 of_table : (name other : EntryName) → same_name name other ≡ true → eqb other.table name.table ≡ true
 of_table name other h = subst (λ (n : EntryName). eqb n.table name.table ≡ true) (names_equal name other h) (itself name.table)
@@ -53,9 +53,9 @@ no_cause None cause other h = (refl, h)
 no_cause (Some x) cause other h = cc
 
 -- an entry that an INSERT with no cause makes is fresh
-pub made_fresh : (entry : Entry) (table : Table) (room : Room) (change : EntryChange) (entries : List Entry) → entry ≡ new_entry table room change → insert_cause table room change.name entries ≡ None → All (λ e. e.seq < next_number room) entries → IsFresh entry entries
+pub made_fresh : (entry : Entry) (table : Table) (rows : ℕ) (room : Room) (change : EntryChange) (entries : List Entry) → entry ≡ new_entry table room change → insert_cause table rows room change.name entries ≡ None → All (λ e. e.seq < next_number room) entries → IsFresh entry entries
 unfolding insert_cause entry_named
-made_fresh entry table room change entries made free above =
+made_fresh entry table rows room change entries made free above =
     let absent = no_cause (find (λ e. same_name change.name e.name) entries) _ _ free in
     subst (λ (x : Entry). IsFresh x entries) (sym made)
     (both_each (λ o. o.seq < next_number room) (λ o. same_name o.name change.name ≡ false) entries (recursion_from_All (λ o. o.seq < next_number room) entries above) (unnamed change.name entries absent.0))
@@ -84,14 +84,14 @@ at_most m n = grind (arith, nat_tests)
 sizes : (table : Table) (entries own : List Entry) (size : ℕ) → own ≡ filter (λ e. eqb e.name.table table.preamble.id) entries → size ≡ table_size table → leb size (length own) ≡ ltb (table_size table) (count_by (λ e. eqb e.name.table table.preamble.id) entries + 1)
 sizes table entries own size is same = at_most size (length own) ∙ rw (is, same, length-filter (λ e. eqb e.name.table table.preamble.id) entries) refl
 
-pub full_by_size : (table : Table) (room : Room) (entries own : List Entry) (size : ℕ) → own ≡ filter (λ e. eqb e.name.table table.preamble.id) entries → size ≡ table_size table → size ≤ length own → leb size (length own) ≡ is_full table room entries
-full_by_size table room entries own size is same full =
+pub full_by_size : (table : Table) (rows : ℕ) (room : Room) (entries own : List Entry) (size : ℕ) → own ≡ filter (λ e. eqb e.name.table table.preamble.id) entries → size ≡ table_size table → size ≤ length own → leb size (length own) ≡ is_full table rows room entries
+full_by_size table rows room entries own size is same full =
     let h = le-leb size (length own) full in
-    h ∙ sym (by_size _ (ltb room.rows 1) (ltb room.slots (slots_drawn table)) (ltb room.numbers 1) (sym (sizes table entries own size is same) ∙ h))
+    h ∙ sym (by_size _ (ltb room.rows rows) (ltb room.slots (slots_drawn table)) (ltb room.numbers 1) (sym (sizes table entries own size is same) ∙ h))
 
-pub full_by_room : (table : Table) (room : Room) (entries own : List Entry) (size : ℕ) (lacks : Bool) → own ≡ filter (λ e. eqb e.name.table table.preamble.id) entries → size ≡ table_size table → length own < size → lacks ≡ ((ltb room.rows 1 || ltb room.slots (slots_drawn table)) || ltb room.numbers 1) → lacks ≡ is_full table room entries
-full_by_room table room entries own size lacks is same free lack =
-    lack ∙ by_room _ (ltb room.rows 1) (ltb room.slots (slots_drawn table)) (ltb room.numbers 1) (sym (sizes table entries own size is same) ∙ lt-leb size (length own) free)
+pub full_by_room : (table : Table) (rows : ℕ) (room : Room) (entries own : List Entry) (size : ℕ) (lacks : Bool) → own ≡ filter (λ e. eqb e.name.table table.preamble.id) entries → size ≡ table_size table → length own < size → lacks ≡ ((ltb room.rows rows || ltb room.slots (slots_drawn table)) || ltb room.numbers 1) → lacks ≡ is_full table rows room entries
+full_by_room table rows room entries own size lacks is same free lack =
+    lack ∙ by_room _ (ltb room.rows rows) (ltb room.slots (slots_drawn table)) (ltb room.numbers 1) (sym (sizes table entries own size is same) ∙ lt-leb size (length own) free)
 
 pub length_modified : (change : EntryChange) (entries : List Entry) → length (modified change entries) ≡ length entries
 unfolding modified

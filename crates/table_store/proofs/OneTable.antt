@@ -11,7 +11,7 @@ use Rattle.plane_spec.specs.Entries.{same_name, with_change, modified, deleted, 
 use Rattle.plane_spec.proofs.Lists.{All-weaken, All-snoc, All-filter}
 use Rattle.table_store.specs.Groups.{IsBefore, AreInOrder}
 use Rattle.table_store.proofs.Lists.{none_at, map_none, filter_all}
-use Rattle.table_store.proofs.Names.{names_equal}
+use Rattle.plane_spec.proofs.Names.{names_equal}
 
 abbrev pub one : EntryChange → Entry → Entry
 one change entry = if same_name change.name entry.name then with_change change entry else entry

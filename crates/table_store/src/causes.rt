@@ -2,13 +2,14 @@
 ghost use Rattle.std.specs.Prelude.{◌≡◌, ◌||◌, nat_lt, is_some};
 ghost use Rattle.std.specs.Option.{option_map};
 ghost use Rattle.plane_spec.specs.Entries.{entry_named, insert_cause, absence_cause, is_full, table_size, is_counted, slots_drawn};
+ghost use Rattle.plane_spec.specs.Profiles.{entry_rows};
 ghost use Rattle.table_store.specs.Groups.{flat, AreGroups};
 
 use crate::groups::{Group, entries_of};
 use crate::rows;
 use p4_types::code::{Cause, Code, Rule};
 use p4_types::info::Table;
-use p4_types::table::{Entry, EntryName, Room};
+use p4_types::table::{Entry, EntryAction, EntryName, Room};
 
 /// The entry of that name.
 pub(crate) fn find<'a>(groups: &'a [Group], name: &EntryName) -> Option<&'a Entry>
@@ -46,19 +47,30 @@ pub fn slots_drawn(table: &Table) -> u32
     if is_counted(table) { 1 } else { 0 }
 }
 
-fn lacks_room(table: &Table, room: Room) -> bool
-    ensures { result ≡ (nat_lt room.rows 1 || nat_lt room.slots (slots_drawn table.now) || nat_lt room.numbers 1) }
+fn lacks_room(table: &Table, rows: u64, room: Room) -> bool
+    ensures { result ≡ (nat_lt room.rows rows || nat_lt room.slots (slots_drawn table.now) || nat_lt room.numbers 1) }
 {
-    room.rows < 1 || room.slots < slots_drawn(table) || room.numbers < 1
+    u64::from(room.rows) < rows || room.slots < slots_drawn(table) || room.numbers < 1
 }
 
-/// Whether one entry more would exceed the table's size, the rows, the slots or the sequence numbers.
-fn is_full(groups: &[Group], table: &Table, room: Room) -> bool
+/// Whether one entry more, which takes so many rows, would exceed the table's size, the rows, the slots or the sequence
+/// numbers.
+fn is_full(groups: &[Group], table: &Table, rows: u64, room: Room) -> bool
     requires { AreGroups groups.now }
-    ensures { result ≡ is_full table.now room (flat groups.now) }
+    ensures { result ≡ is_full table.now rows room (flat groups.now) }
 {
     let entries = entries_of(groups, table.preamble.id).len() as u64;
-    table_size(table) <= entries || lacks_room(table, room)
+    table_size(table) <= entries || lacks_room(table, rows, room)
+}
+
+/// How many rows an entry takes that does this: one, and one for each action of its one-shot set.
+pub fn entry_rows(action: &EntryAction) -> u64
+    ensures { result ≡ entry_rows action.now }
+{
+    match action {
+        EntryAction::Set { calls, .. } => calls.get().as_slice().len() as u64 + 1,
+        _ => 1,
+    }
 }
 
 /// Why an INSERT is refused: the entry is there (U10), or there is no room (U12).
@@ -67,10 +79,11 @@ pub(crate) fn insert_cause(
     groups: &[Group],
     table: &Table,
     name: &EntryName,
+    rows: u64,
     room: Room,
 ) -> Option<Cause>
     requires { AreGroups groups.now }
-    ensures { result ≡ insert_cause table.now room name.now (flat groups.now) }
+    ensures { result ≡ insert_cause table.now rows room name.now (flat groups.now) }
 {
     if has(groups, name) {
         return Some(Cause {
@@ -78,7 +91,7 @@ pub(crate) fn insert_cause(
             code: Code::AlreadyExists,
         });
     }
-    if is_full(groups, table, room) {
+    if is_full(groups, table, rows, room) {
         return Some(Cause {
             rule: Rule::U12,
             code: Code::ResourceExhausted,

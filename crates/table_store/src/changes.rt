@@ -1,13 +1,14 @@
 //! Changes of the entries by their tables, which can be undone.
-ghost use Rattle.std.specs.Prelude.{◌≡◌, ◌+◌, ◌<◌, All, length, OnOk, OnErr};
+ghost use Rattle.std.specs.Prelude.{◌≡◌, ◌+◌, ◌<◌, All, length, IfOk, OnOk, OnErr};
 ghost use Rattle.plane_spec.specs.Entries.{insert_cause, absence_cause, new_entry, next_number, inserted, modified, deleted};
+ghost use Rattle.plane_spec.specs.Profiles.{entry_rows};
 ghost use Rattle.table_store.specs.Answers.{Refuses};
 ghost use Rattle.table_store.specs.Undo.{IsStep};
 ghost use Rattle.table_store.specs.Groups.{flat, AreGroups};
 
-use crate::causes::{absence_cause, insert_cause, is_counted};
+use crate::causes::{absence_cause, entry_rows, insert_cause, is_counted};
 use crate::groups::{self, Group};
-use list_types::Refusal;
+use list_types::{NoMemory, Refusal};
 use p4_types::code::Cause;
 use p4_types::info::Table;
 use p4_types::table::{Entry, EntryChange, EntryName, Room};
@@ -16,21 +17,21 @@ use std::alloc::Global;
 /// How many slots of counters the switch has.
 const SLOT_LIMIT: u32 = 1_048_576;
 
-fn new_entry(table: &Table, room: Room, change: &EntryChange) -> Entry
-    ensures { result ≡ new_entry table.now room change.now }
+fn new_entry(table: &Table, room: Room, change: &EntryChange) -> Result<Entry, NoMemory>
+    ensures { IfOk result (λ entry. entry ≡ new_entry table.now room change.now) }
 {
     let slot = if is_counted(table) {
         Some(SLOT_LIMIT.saturating_sub(room.slots))
     } else {
         None
     };
-    Entry {
+    Ok(Entry {
         name: change.name.copy(),
         seq: u64::MAX - room.numbers,
         controller_metadata: change.controller_metadata,
-        action: change.action.copy(),
+        action: change.action.share()?,
         slot,
-    }
+    })
 }
 
 /// Makes the entry of an INSERT.
@@ -44,16 +45,17 @@ pub(crate) fn insert(
     requires groups { AreGroups groups.old.items }
     requires table { change.now.name.table ≡ table.now.preamble.id }
     requires above { All (λ entry. entry.seq < next_number room) (flat groups.old.items) }
-    ensures refused { Refuses result (insert_cause table.now room change.now.name (flat groups.old.items)) }
+    ensures refused { Refuses result (insert_cause table.now (entry_rows change.now.action) room change.now.name (flat groups.old.items)) }
     ensures ok { OnOk result (flat groups.new.items ≡ inserted (new_entry table.now room change.now) (flat groups.old.items)) }
     ensures err { OnErr result (flat groups.new.items ≡ flat groups.old.items) }
     ensures groups { AreGroups groups.new.items }
     ensures step { IsStep change.now.name.table groups.old.items groups.new.items }
 {
-    if let Some(cause) = insert_cause(groups, table, &change.name, room) {
+    let rows = entry_rows(&change.action);
+    if let Some(cause) = insert_cause(groups, table, &change.name, rows, room) {
         return Err(Refusal::For(cause));
     }
-    let entry = new_entry(table, room, change);
+    let entry = new_entry(table, room, change)?;
     groups::insert(groups, alloc, entry)?;
     Ok(())
 }

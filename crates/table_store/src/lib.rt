@@ -9,5 +9,5 @@ mod matching;
 mod rows;
 mod store;
 
-pub use causes::slots_drawn;
+pub use causes::{entry_rows, slots_drawn};
 pub use store::{TableStore, Tables};

@@ -1,5 +1,5 @@
 //! The entries of one table.
-ghost use Rattle.std.specs.Prelude.{◌≡◌, OnOk, OnErr};
+ghost use Rattle.std.specs.Prelude.{◌≡◌, IfOk, OnOk, OnErr};
 ghost use Rattle.std.specs.List.{position};
 ghost use Rattle.std.specs.Option.{option_map};
 ghost use Rattle.plane_spec.specs.Entries.{same_name, entry_named, best, with_change, modified, deleted};
@@ -53,16 +53,16 @@ pub(crate) fn best<'a>(table: u32, key: &[u128], entries: &'a [Entry]) -> Option
 }
 
 /// An entry with what a change brings, of the same name, sequence number and slot.
-fn with_change(entry: &Entry, change: &EntryChange) -> Entry
-    ensures { result ≡ with_change change.now entry.now }
+fn with_change(entry: &Entry, change: &EntryChange) -> Result<Entry, NoMemory>
+    ensures { IfOk result (λ changed. changed ≡ with_change change.now entry.now) }
 {
-    Entry {
+    Ok(Entry {
         name: entry.name.copy(),
         seq: entry.seq,
         controller_metadata: change.controller_metadata,
-        action: change.action.copy(),
+        action: change.action.share()?,
         slot: entry.slot,
-    }
+    })
 }
 
 /// Gives the entry of that name, of which there is one at most, what the change brings.
@@ -75,7 +75,7 @@ pub(crate) fn change(entries: &mut UndoVec<Entry>, change: &EntryChange) -> Resu
     let place = place_of(entries.as_slice(), &change.name);
     if let Some(place) = place {
         let rows = entries.as_slice();
-        let changed = with_change(&rows[place], change);
+        let changed = with_change(&rows[place], change)?;
         entries.replace(place, changed)?;
     }
     Ok(())

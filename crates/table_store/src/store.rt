@@ -4,6 +4,7 @@ ghost use Rattle.std.specs.List.{AllPairs};
 ghost use Rattle.std.specs.Option.{option_map};
 ghost use Rattle.plane_spec.specs.Entries.{entry_named, best, insert_cause, absence_cause, new_entry, next_number, inserted, modified, deleted};
 ghost use Rattle.plane_spec.specs.Order.{StandsBefore};
+ghost use Rattle.plane_spec.specs.Profiles.{entry_rows};
 ghost use Rattle.table_store.specs.Answers.{Refuses};
 ghost use Rattle.table_store.specs.Order.{AreOfOneTable, AreOfLowerTables};
 
@@ -90,11 +91,17 @@ impl TableStore {
         rows::best(table, key, self.entries_of(table))
     }
 
-    /// Why an INSERT is refused: the entry is there (U10), or there is no room (U12).
-    pub fn insert_cause(&self, table: &Table, name: &EntryName, room: Room) -> Option<Cause>
-        ensures { result ≡ insert_cause table.now room name.now self.now.entries }
+    /// Why an INSERT of an entry is refused that takes so many rows: it is there (U10), or there is no room (U12).
+    pub fn insert_cause(
+        &self,
+        table: &Table,
+        name: &EntryName,
+        rows: u64,
+        room: Room,
+    ) -> Option<Cause>
+        ensures { result ≡ insert_cause table.now rows room name.now self.now.entries }
     {
-        causes::insert_cause(&self.groups, table, name, room)
+        causes::insert_cause(&self.groups, table, name, rows, room)
     }
 
     /// Why a MODIFY or a DELETE is refused: the entry is absent (U10).
@@ -115,7 +122,7 @@ impl TableStore {
     ) -> Result<(), Refusal<Cause>>
         requires table { change.now.name.table ≡ table.now.preamble.id }
         requires above { All (λ entry. entry.seq < next_number room) self.old.entries }
-        ensures refused { Refuses result (insert_cause table.now room change.now.name self.old.entries) }
+        ensures refused { Refuses result (insert_cause table.now (entry_rows change.now.action) room change.now.name self.old.entries) }
         ensures ok { OnOk result (self.new.entries ≡ inserted (new_entry table.now room change.now) self.old.entries) }
         ensures err { OnErr result (self.new.entries ≡ self.old.entries) }
         ensures before { self.new.before ≡ self.old.before }

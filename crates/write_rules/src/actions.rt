@@ -3,7 +3,7 @@ ghost use Rattle.std.specs.Prelude.{◌≡◌, ◌==◌, ◌&&◌, ◌^◌, not,
 ghost use Rattle.std.specs.Option.{option_map};
 ghost use Rattle.std.specs.List.{list_any, list_all};
 ghost use Rattle.p4_types.specs.declared.info.Param as info_params;
-ghost use Rattle.plane_spec.specs.UpdateRules.{repeats, is_empty, is_allowed, has_action, are_complete, argument_of, arguments_fit, argument_flaw, number_in};
+ghost use Rattle.plane_spec.specs.UpdateRules.{repeats, is_empty, is_allowed, has_action, are_complete, argument_of, arguments_fit, argument_flaw, number_in, call_in, no_call, call_by};
 ghost use Rattle.p4info_model.specs.Valid.{IsWidth};
 ghost use Rattle.write_rules.specs.Widths.{HasParamWidths};
 
@@ -12,7 +12,9 @@ use p4_types::code::Code;
 use p4_types::info;
 use p4_types::info::{Scope, Table};
 use p4_types::keys::Arguments;
-use p4_types::messages::Param;
+use p4_types::messages::{Action, Param};
+use p4_types::table::ActionCall;
+use p4info_model::P4Info;
 
 fn is_allowed(default: bool, scope: Scope) -> bool
     ensures { result ≡ is_allowed default scope }
@@ -164,4 +166,38 @@ pub(crate) fn arguments(params: &[info::Param], given: &[Param]) -> Arguments
         arguments.push(numbers::number(argument_of(given, param.id), param.bitwidth));
     }
     arguments
+}
+
+/// The call of an action of the program.
+pub(crate) fn call_in(info: &P4Info, call: &Action) -> ActionCall
+    ensures { result ≡ call_in info.now call.now }
+{
+    let arguments = match info.action(call.action_id) {
+        Some(action) => arguments(action.params.as_slice(), call.params.as_slice()),
+        None => Arguments::new(),
+    };
+    ActionCall {
+        action: call.action_id,
+        arguments,
+    }
+}
+
+/// What stands for an action that is not given.
+pub(crate) fn no_call() -> ActionCall
+    ensures { result ≡ no_call }
+{
+    ActionCall {
+        action: 0,
+        arguments: Arguments::new(),
+    }
+}
+
+/// The call of an action that is given, or what stands for it.
+pub(crate) fn call_by(info: &P4Info, action: &Option<Action>) -> ActionCall
+    ensures { result ≡ call_by info.now action.now }
+{
+    match action {
+        None => no_call(),
+        Some(call) => call_in(info, call),
+    }
 }

@@ -2,9 +2,13 @@
 #![tactic(auto)]
 
 mod actions;
+mod digests;
+mod groups;
 mod matches;
+mod members;
 mod numbers;
 mod rules;
+mod sets;
 mod updates;
 
 pub use numbers::number;

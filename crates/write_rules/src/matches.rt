@@ -31,7 +31,7 @@ fn is_prefix_length(width: u32, length: i32) -> bool
     length >= 1 && length as u32 <= width
 }
 
-fn all_zero(bytes: &[u8]) -> bool
+pub(crate) fn all_zero(bytes: &[u8]) -> bool
     ensures { result ≡ all_zero bytes.now }
 {
     for byte in bytes {

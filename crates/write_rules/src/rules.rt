@@ -2,13 +2,31 @@
 ghost use Rattle.std.specs.Prelude.{◌≡◌, ◌==◌, ◌&&◌, ◌||◌, not, Some, None};
 ghost use Rattle.std.specs.Option.{option_map};
 ghost use Rattle.std.specs.List.{list_any};
-ghost use Rattle.plane_spec.specs.UpdateRules.{update_kind, brings, is_unserved, is_foreign, is_fixed, is_malformed, is_malformed_match, names_zero, is_too_wide, has_priorities, has_right_priority, is_canonical_match, is_inconsistent};
+ghost use Rattle.plane_spec.specs.UpdateRules.{caused, caused_by, update_kind, brings, is_unserved, is_foreign, is_fixed, is_malformed, is_malformed_match, names_zero, is_too_wide, has_priorities, has_right_priority, is_canonical_match, is_inconsistent};
 ghost use Rattle.write_rules.specs.Widths.{HasWidths};
 
-use crate::matches;
+use crate::{matches, sets};
+use p4_types::code::{Cause, Code, Rule};
 use p4_types::info::{MatchKind, Table};
 use p4_types::messages::{TableAction, TableEntry};
 use p4_types::table::UpdateKind;
+
+/// The cause of a refusal by a rule.
+pub(crate) fn refused(rule: Rule, code: Code) -> Option<Cause>
+    ensures { result ≡ caused rule code }
+{
+    Some(Cause { rule, code })
+}
+
+/// The cause of a refusal by a rule, where there is a code of it.
+pub(crate) fn refused_by(rule: Rule, code: Option<Code>) -> Option<Cause>
+    ensures { result ≡ caused_by rule code }
+{
+    match code {
+        None => None,
+        Some(code) => refused(rule, code),
+    }
+}
 
 /// INSERT, MODIFY or DELETE by its number in a message.
 pub(crate) fn update_kind(number: i32) -> Option<UpdateKind>
@@ -32,25 +50,16 @@ pub(crate) fn brings(kind: UpdateKind) -> bool
     }
 }
 
-// Whether an entry gives what is not served.
-fn gives_unserved(entry: &TableEntry) -> bool
-    ensures { result ≡ is_unserved None UpdateKind.Insert entry.now }
+/// U2: an INSERT or MODIFY that gives what is not served.
+pub(crate) fn is_unserved(kind: UpdateKind, entry: &TableEntry) -> bool
+    ensures { result ≡ is_unserved kind entry.now }
 {
-    entry.meter_config
-        || entry.counter_data.is_some()
-        || entry.time_since_last_hit
-        || entry.idle_timeout_ns != 0
-}
-
-/// U2: an entry of a table with an action profile, or an INSERT or MODIFY that gives what is not served.
-pub(crate) fn is_unserved(table: Option<&Table>, kind: UpdateKind, entry: &TableEntry) -> bool
-    ensures { result ≡ is_unserved (option_map (λ table. table.now) table.entry) kind entry.now }
-{
-    let has_profile = match table {
-        Some(table) => table.action_profile.is_some(),
-        None => false,
-    };
-    has_profile || (brings(kind) && gives_unserved(entry))
+    brings(kind)
+        && (entry.meter_config
+            || entry.counter_data.is_some()
+            || entry.time_since_last_hit
+            || entry.idle_timeout_ns != 0
+            || sets::has_watch(&entry.action))
 }
 
 /// U4: the role's configuration has not this id.
@@ -63,7 +72,8 @@ pub(crate) fn is_foreign(scope: Option<&[u32]>, id: u32) -> bool
     }
 }
 
-/// U5: an entry of a const table, or a default entry that is not changed by a MODIFY or that never changes.
+/// U5: an entry of a const table, or a default entry that is not changed by a MODIFY, that never changes, or whose table has
+/// an action profile.
 pub(crate) fn is_fixed(table: &Table, kind: UpdateKind, entry: &TableEntry) -> bool
     ensures { result ≡ is_fixed table.now kind entry.now }
 {
@@ -72,7 +82,10 @@ pub(crate) fn is_fixed(table: &Table, kind: UpdateKind, entry: &TableEntry) -> b
         UpdateKind::Insert | UpdateKind::Delete => false,
     };
     table.is_const_table
-        || (entry.is_default_action && (!modifies || table.const_default_action.is_some()))
+        || (entry.is_default_action
+            && (!modifies
+                || table.const_default_action.is_some()
+                || table.action_profile.is_some()))
 }
 
 // Whether the action is a member or a group by the id 0.

@@ -10,6 +10,7 @@ returns c = record {
   lab_takes_first = worked.lab_takes_first;
   group_chooses_first = worked.group_chooses_first;
   group_chooses_second = worked.group_chooses_second;
+  set_chooses_second = worked.set_chooses_second;
   short_frame_leaves = worked.short_frame_leaves;
   controller_is_told = worked.controller_is_told;
   controller_header_too_short = worked.controller_header_too_short;

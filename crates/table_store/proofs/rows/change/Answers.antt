@@ -8,7 +8,7 @@ use Rattle.table_store.proofs.rows.change.Goals as goal
 pub returns-in_ok-replace-clause-ok : goal.returns-in_ok-replace-clause-ok
 returns-in_ok-replace-clause-ok c =
     let place = ap (λ (xs : List Entry). position (λ (x : Entry). same_name c.args.change.now.name x.name) xs) (sym c.as_slice.ensures) ∙ sym c.place_of-place.ensures ∙ c.in-Some.is in
-    c.in_ok-replace.ensures.ok ∙ changed_at c.args.change.now c.args.entries.now.items c.in-Some.place c.index-rows-place.result c.with_change-changed.result c.requires place (rw (sym c.as_slice-rows.ensures) c.index-rows-place.is) c.with_change-changed.ensures
+    c.in_ok-replace.ensures.ok ∙ changed_at c.args.change.now c.args.entries.now.items c.in-Some.place c.index-rows-place.result c.in_ok-changed.changed c.requires place (rw (sym c.as_slice-rows.ensures) c.index-rows-place.is) c.in_ok-changed.ensures
 
 pub returns-in_default-clause-ok : goal.returns-in_default-clause-ok
 returns-in_default-clause-ok c =

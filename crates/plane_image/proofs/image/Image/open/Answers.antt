@@ -1,4 +1,4 @@
-use Rattle.std.proofs.Common.{false, Option, None, ◌∙◌, sym, subst}
+use Rattle.std.proofs.Common.{false, Option, ◌∙◌, sym, subst}
 use Rattle.plane_spec.specs.Planes.{Plane}
 use Rattle.plane_image.specs.Image.{IsNumbered, control_of}
 use Rattle.plane_image.proofs.AtFirst.{opened_numbered}

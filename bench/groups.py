@@ -1,0 +1,73 @@
+#!/usr/bin/env python3
+"""groups.py [PROGRAM]
+
+Times `PROGRAM replay --lockstep` (default: the built program) over tapes in which a controller inserts groups of 256
+members into the laboratory's program of examples/programs, whose action profile is given room for 4,096 members and no
+limit of weights. It prints what such an INSERT takes beside the members that the groups name alone, beside 2,048 members
+more, and beside 32 groups more of other members: the tape with 64 INSERTs and DELETEs of a group less the tape without
+them, by 64. The three stay near each other where an INSERT does not grow with what others have.
+
+Of each time the least of several runs counts. Times are of this machine.
+"""
+import os
+import re
+import subprocess
+import sys
+import tempfile
+
+from calls import long_field, tape
+from pipelines import ARBITRATE, VERIFY_AND_COMMIT, least, number, put, shortest
+from replay import TOP, record
+from stages import PROGRAMS
+
+PROFILE, SET_PORT = 285212673, 16777233
+INSERT, DELETE = 1, 3
+
+
+def laboratory():
+    with open(os.path.join(PROGRAMS, "lab.p4info.txt")) as file:
+        text = file.read()
+    text = re.sub(r"(with_selector: true\s+)size: \d+\s+max_group_size: \d+", r"\1size: 4096", text)
+    with tempfile.NamedTemporaryFile("w", suffix=".txt") as info:
+        info.write(text)
+        info.flush()
+        made = subprocess.run([os.path.join(TOP, "bin/p4config"), info.name, os.path.join(PROGRAMS, "lab.json")],
+                              stdout=subprocess.PIPE, check=True)
+    return made.stdout
+
+
+def write(updates):
+    body = b"".join(long_field(4, number(1, kind) + long_field(2, entity)) for kind, entity in updates)
+    return record(1, 0, b"\x01" + number(1, 1) + long_field(3, number(2, 1)) + body)
+
+
+def member(place):
+    call = number(1, SET_PORT) + long_field(4, number(2, 1) + long_field(3, shortest(1 + place % 8)))
+    return long_field(3, number(1, PROFILE) + number(2, 1 + place) + long_field(3, call))
+
+
+def group(place, first):
+    shares = b"".join(long_field(3, number(1, 1 + first + share) + number(2, 1)) for share in range(256))
+    return long_field(4, number(1, PROFILE) + number(2, 1 + place) + shares)
+
+
+def members(count):
+    return [write([(INSERT, member(place)) for place in range(start, min(start + 1024, count))]) for start in range(0, count, 1024)]
+
+
+def rounds(place, first, count):
+    return [write([(INSERT, group(place, first))]), write([(DELETE, group(place, first))])] * count
+
+
+def main():
+    program = sys.argv[1] if len(sys.argv) > 1 else os.path.join(TOP, "crates/p4switch/out/p4switch")
+    start = [ARBITRATE, put(VERIFY_AND_COMMIT, laboratory())]
+    others = [write([(INSERT, group(100 + place, 256 + place * 32))]) for place in range(32)]
+    for name, before in (("its own 256 members", members(256)), ("2,048 members more", members(2304)), ("32 groups more besides", members(2304) + others)):
+        with_it, _ = least(program, tape(start + before + rounds(0, 0, 64)))
+        without, _ = least(program, tape(start + before))
+        print("INSERT and DELETE of a group of 256 members, beside %s: %.0f us" % (name, (with_it - without) * 1e6 / 64), flush=True)
+
+
+if __name__ == "__main__":
+    main()

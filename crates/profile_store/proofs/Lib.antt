@@ -1,0 +1,10 @@
+pub mod Keys
+pub mod Places
+pub mod Finding
+pub mod Edits
+pub mod Counting
+pub mod MemberEdits
+pub mod SharesNamed
+pub mod GroupEdits
+pub mod SetEdits
+pub mod Named

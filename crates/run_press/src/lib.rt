@@ -1,0 +1,7 @@
+//! The press of a run: the events that it was given, in their order, and the steps that they are.
+#![tactic(auto)]
+
+mod published;
+mod steps;
+
+pub use published::Published;
