@@ -2,7 +2,6 @@
 ghost use Rattle.std.specs.Prelude.{◌≡◌, ◌∷◌, [], false, IfOk};
 ghost use Rattle.std.specs.Option.{option_copied};
 ghost use Rattle.switch_spec.specs.Answer.{write_refusal, write_answer, written, unreadable, plain, failed, read_reply, answer_to, is_atomic, atomicity_of};
-ghost use Rattle.switch_spec.specs.Counts.{no_figures};
 ghost use Rattle.switch_spec.specs.Status.{capabilities_bytes};
 ghost use Rattle.plane_spec.specs.Legal.{Legal};
 ghost use Rattle.plane_spec.specs.Planes.{primary as primary_session, is_of_primary, scope_of, applied, outcomes};
@@ -18,6 +17,7 @@ use p4_types::code::Code;
 use p4_types::events::{Event, Origin};
 use p4_types::messages::{ReadRequest, Uint128, WriteRequest};
 use plane_image::{Image, Scope};
+use plane_read::Counts;
 use plane_state::Config;
 use role_arbiter::{Session, election_number};
 use std::alloc::Global;
@@ -70,6 +70,7 @@ pub(crate) fn failure(alloc: Global, code: Code) -> Result<Prepared, NoMemory>
         messages: messages::of_code(alloc, code)?,
         notices: List::new(alloc),
         events: List::new(alloc),
+        packet: None,
     })
 }
 
@@ -137,18 +138,19 @@ fn write(
 
 // What a Read selects, or the code with which it is refused.
 #[tactic(auto, unfolding(switch_spec::specs::Reading::read_result))]
-fn read(
+fn read<C: Counts>(
     alloc: Global,
     image: &Image,
+    counts: &C,
     request: &ReadRequest,
 ) -> Result<Result<List<ByteList>, Code>, NoMemory>
-    ensures { IfOk result (λ answer. answer ≡ read_result image.now.now request.now) }
+    ensures { IfOk result (λ answer. answer ≡ read_result image.now.now (C.figures counts.now) request.now) }
 {
     if request.device_id != image.device() {
         return Ok(Err(Code::NotFound));
     }
     match image.target() {
-        Some(plane) => plane_read::read(alloc, plane, request.entities.as_slice()),
+        Some(plane) => plane_read::read(alloc, plane, counts, request.entities.as_slice()),
         None => Ok(Err(Code::FailedPrecondition)),
     }
 }
@@ -163,6 +165,7 @@ fn read_reply(alloc: Global, answer: Result<List<ByteList>, Code>) -> Result<Pre
             messages,
             notices: List::new(alloc),
             events: List::new(alloc),
+            packet: None,
         }),
         Err(code) => failure(alloc, code),
     }
@@ -189,6 +192,7 @@ pub(crate) fn bare(alloc: Global, code: Code) -> Prepared
         messages: List::new(alloc),
         notices: List::new(alloc),
         events: List::new(alloc),
+        packet: None,
     }
 }
 
@@ -201,26 +205,28 @@ fn capabilities(alloc: Global) -> Result<Prepared, NoMemory>
         messages: messages::of_capabilities(alloc)?,
         notices: List::new(alloc),
         events: List::new(alloc),
+        packet: None,
     })
 }
 
 // The answer to a lane's call.
-fn answer(
+fn answer<C: Counts>(
     alloc: Global,
     image: &mut Image,
     lane: u16,
     number: u64,
     call: &Call,
+    counts: &C,
 ) -> Result<Prepared, NoMemory>
     requires settled { image.old.before ≡ image.old.now }
-    ensures prepared { IfOk result (λ p. IsPrepared (answer_to image.old.now no_figures lane number call.now) p) }
+    ensures prepared { IfOk result (λ p. IsPrepared (answer_to image.old.now (C.figures counts.now) lane number call.now) p) }
     ensures leads { IfOk result (λ p. Leads image.old image.new p.events) }
     ensures before { image.new.before ≡ image.old.before }
     ensures steps { image.new.steps ≡ image.old.steps }
 {
     match call {
         Call::Write(request) => write(alloc, image, lane, number, request),
-        Call::Read(request) => read_reply(alloc, read(alloc, image, request)?),
+        Call::Read(request) => read_reply(alloc, read(alloc, image, counts, request)?),
         Call::Set(request) => pipelines::set(alloc, image, lane, number, request),
         Call::Get(request) => pipelines::get(alloc, image, request),
         Call::Stream(message) => stream::answer(alloc, image, lane, number, message),
@@ -230,18 +236,19 @@ fn answer(
     }
 }
 
-/// The answer to a lane's call, whose events were made in the image and may follow. Without memory the image may be
-/// changed, which is still to be undone.
-pub(crate) fn prepare(
+/// The answer to a lane's call, whose events were made in the image and may follow; a Read sees these counts. Without
+/// memory the image may be changed, which is still to be undone.
+pub(crate) fn prepare<C: Counts>(
     alloc: Global,
     image: &mut Image,
     lane: u16,
     number: u64,
     call: &Call,
+    counts: &C,
 ) -> Result<Prepared, NoMemory>
     requires settled { image.old.before ≡ image.old.now }
     requires alive { image.old.now.closed ≡ false }
-    ensures prepared { IfOk result (λ p. IsPrepared (answer_to image.old.now no_figures lane number call.now) p) }
+    ensures prepared { IfOk result (λ p. IsPrepared (answer_to image.old.now (C.figures counts.now) lane number call.now) p) }
     ensures leads { IfOk result (λ p. Leads image.old image.new p.events) }
     ensures before { image.new.before ≡ image.old.before }
     ensures steps { image.new.steps ≡ image.old.steps }
@@ -249,6 +256,6 @@ pub(crate) fn prepare(
     ensures may { IfOk result (λ p. Legal image.old.now p.events) }
     ensures alive { IfOk result (λ p. (applied image.old.now p.events).closed ≡ false) }
 {
-    let prepared = answer(alloc, image, lane, number, call)?;
+    let prepared = answer(alloc, image, lane, number, call, counts)?;
     Ok(prepared)
 }

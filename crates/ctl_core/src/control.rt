@@ -3,7 +3,6 @@ ghost use Rattle.std.specs.Prelude.{◌≡◌, ◌<◌, ◌++◌, false, OnOk, O
 ghost use Rattle.plane_spec.specs.Legal.{Legal};
 ghost use Rattle.plane_spec.specs.Planes.{opened, applied};
 ghost use Rattle.switch_spec.specs.Answer.{answer_to};
-ghost use Rattle.switch_spec.specs.Counts.{no_figures};
 ghost use Rattle.switch_spec.specs.History.{is_unavailable};
 ghost use Rattle.ctl_core.specs.Core.{Handled, IsSettled, without_memory, raised};
 ghost use Rattle.ctl_core.specs.Prepared.{answer_of};
@@ -16,6 +15,7 @@ use p4_types::calls::{Call, Reply};
 use p4_types::code::Code;
 use p4_types::events::{Event, Start};
 use plane_image::Image;
+use plane_read::Counts;
 use plane_state::Config;
 use std::alloc::Global;
 use std::marker::Model;
@@ -105,29 +105,30 @@ fn complete<P: Press>(alloc: Global, image: &mut Image, prepared: Prepared, pres
                 messages: prepared.messages,
                 notices: prepared.notices,
                 steps: image.steps(),
-                packet: None,
+                packet: prepared.packet,
             }
         }
     }
 }
 
 // Answers a call, and hands its events on.
-fn respond<P: Press>(
+fn respond<P: Press, C: Counts>(
     alloc: Global,
     image: &mut Image,
     caller: u16,
     number: u64,
     call: &Call,
     press: &mut P,
+    counts: &C,
 ) -> Reply
     requires settled { IsSettled image.old }
     requires state { applied (P.opening press.old) (P.given press.old) ≡ image.old.now }
-    ensures handled { Handled image.old.now image.old.steps (P.given press.old) (answer_to image.old.now no_figures caller number call.now) result image.new.now (P.given press.new) }
+    ensures handled { Handled image.old.now image.old.steps (P.given press.old) (answer_to image.old.now (C.figures counts.now) caller number call.now) result image.new.now (P.given press.new) }
     ensures steps { result.steps ≡ image.new.steps }
     ensures settled { IsSettled image.new }
     ensures opening { P.opening press.new ≡ P.opening press.old }
 {
-    match calls::prepare(alloc, image, caller, number, call) {
+    match calls::prepare(alloc, image, caller, number, call, counts) {
         Ok(prepared) => complete(alloc, image, prepared, press),
         Err(NoMemory) => refused(alloc, image),
     }
@@ -148,24 +149,26 @@ impl Control {
     }
 
     /// Answers a call of a caller, a controller's lane below 32, and hands the events of its answer to the
-    /// press. A call for which there is no memory is answered UNAVAILABLE: it makes no step.
-    pub fn handle<P: Press>(
+    /// press; a Read of counters sees the counts. Where the reply has a packet, that packet is to enter at the CPU port
+    /// directly after the call. A call for which there is no memory is answered UNAVAILABLE: it makes no step.
+    pub fn handle<P: Press, C: Counts>(
         &mut self,
         alloc: Global,
         caller: u16,
         call: &Call,
         press: &mut P,
+        counts: &C,
     ) -> Reply
         requires caller { caller < 32 }
         requires state { applied (P.opening press.old) (P.given press.old) ≡ self.old.control }
-        ensures handled { Handled self.old.control self.old.steps (P.given press.old) (answer_to self.old.control no_figures caller (raised (slice_index self.old.calls caller) 1) call.now) result self.new.control (P.given press.new) }
+        ensures handled { Handled self.old.control self.old.steps (P.given press.old) (answer_to self.old.control (C.figures counts.now) caller (raised (slice_index self.old.calls caller) 1) call.now) result self.new.control (P.given press.new) }
         ensures steps { result.steps ≡ self.new.steps }
         ensures counted { self.new.calls ≡ set self.old.calls caller (raised (slice_index self.old.calls caller) 1) }
         ensures opening { P.opening press.new ≡ P.opening press.old }
     {
         let number = self.calls[caller as usize].saturating_add(1);
         self.calls[caller as usize] = number;
-        respond(alloc, &mut self.image, caller, number, call, press)
+        respond(alloc, &mut self.image, caller, number, call, press, counts)
     }
 
     /// Answers UNAVAILABLE to a caller whose call could not be read for want of memory.

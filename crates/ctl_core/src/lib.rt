@@ -5,6 +5,7 @@ mod calls;
 mod control;
 mod lists;
 mod messages;
+mod packets;
 mod pipelines;
 mod prepared;
 mod press;
@@ -12,4 +13,5 @@ mod stream;
 mod writes;
 
 pub use control::Control;
+pub use plane_read::Counts;
 pub use press::Press;

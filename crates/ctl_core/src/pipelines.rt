@@ -8,7 +8,7 @@ ghost use Rattle.link_spec.specs.Configured.{config_meant};
 ghost use Rattle.ctl_core.specs.Prepared.{IsPrepared, Leads, Sets};
 
 use crate::calls::{failure, is_of_primary};
-use crate::lists::only;
+use crate::lists::{copied, only};
 use crate::messages;
 use crate::prepared::Prepared;
 use config_rules::configuration;
@@ -277,12 +277,14 @@ fn set_reply(
             messages: only(alloc, List::new(alloc))?,
             notices: List::new(alloc),
             events,
+            packet: None,
         }),
         Err(SetRefusal::Breaks(rule)) => Ok(Prepared {
             code: Code::InvalidArgument,
             messages: messages::of_rule(alloc, rule)?,
             notices: List::new(alloc),
             events: List::new(alloc),
+            packet: None,
         }),
         Err(SetRefusal::Fails(code)) => failure(alloc, code),
     }
@@ -318,14 +320,6 @@ fn response_type_of(number: i32) -> Option<ResponseType>
         3 => Some(ResponseType::DeviceConfigAndCookie),
         _ => None,
     }
-}
-
-fn copied(alloc: Global, bytes: &[u8]) -> Result<ByteList, NoMemory>
-    ensures { IfOk result (λ copy. copy ≡ bytes.now) }
-{
-    let mut copy = List::new(alloc);
-    copy.extend_from_slice(bytes)?;
-    Ok(copy)
 }
 
 // The parts of a configuration that a type names, as they were given.
@@ -400,6 +394,7 @@ pub(crate) fn get(
             messages: only(alloc, message)?,
             notices: List::new(alloc),
             events: List::new(alloc),
+            packet: None,
         }),
     }
 }

@@ -7,8 +7,8 @@ ghost use Rattle.ctl_core.specs.Prepared.{IsPrepared, Leads};
 
 use crate::calls::bare;
 use crate::lists::only;
-use crate::messages;
 use crate::prepared::Prepared;
+use crate::{messages, packets};
 use list_types::{List, NoMemory};
 use p4_types::calls::Notice;
 use p4_types::code::{ArbitrationRule, Code};
@@ -108,6 +108,7 @@ fn unserved_answer(alloc: Global, lane: u16) -> Result<Prepared, NoMemory>
         messages: List::new(alloc),
         notices: only(alloc, Notice { lane, message })?,
         events: List::new(alloc),
+        packet: None,
     })
 }
 
@@ -157,6 +158,7 @@ fn arbitration(
         messages: List::new(alloc),
         notices,
         events: only(alloc, Event::Arbitrate { by, config })?,
+        packet: None,
     })
 }
 
@@ -180,8 +182,8 @@ pub(crate) fn answer(
             arbitration(alloc, image, lane, call, update)
         }
         Some(StreamMessageRequest::DigestAck(_)) => Ok(bare(alloc, Code::Ok)),
-        Some(StreamMessageRequest::Packet(_)) | Some(StreamMessageRequest::Other(_)) =>
-            unserved_answer(alloc, lane),
+        Some(StreamMessageRequest::Packet(packet)) => packets::answer(alloc, image, lane, packet),
+        Some(StreamMessageRequest::Other(_)) => unserved_answer(alloc, lane),
     }
 }
 
@@ -210,5 +212,6 @@ pub(crate) fn leave(
         messages: List::new(alloc),
         notices,
         events: only(alloc, Event::Leave { caller: lane, call })?,
+        packet: None,
     })
 }

@@ -112,6 +112,7 @@ fn continued(alloc: Global, by: Origin, outcomes: Outcomes) -> Result<Prepared, 
             messages: empty_message(alloc)?,
             events: steps(alloc, by, changes(alloc, outcomes)?)?,
             notices: List::new(alloc),
+            packet: None,
         });
     }
     let status = messages::of_continued(alloc, outcomes.as_slice())?;
@@ -120,6 +121,7 @@ fn continued(alloc: Global, by: Origin, outcomes: Outcomes) -> Result<Prepared, 
         messages: only(alloc, status)?,
         events: steps(alloc, by, changes(alloc, outcomes)?)?,
         notices: List::new(alloc),
+        packet: None,
     })
 }
 
@@ -133,6 +135,7 @@ fn all_or_nothing(alloc: Global, by: Origin, outcomes: Outcomes) -> Result<Prepa
             messages: empty_message(alloc)?,
             events: batch(alloc, by, changes(alloc, outcomes)?)?,
             notices: List::new(alloc),
+            packet: None,
         });
     }
     let status = messages::of_batch(alloc, outcomes.as_slice())?;
@@ -141,6 +144,7 @@ fn all_or_nothing(alloc: Global, by: Origin, outcomes: Outcomes) -> Result<Prepa
         messages: only(alloc, status)?,
         events: List::new(alloc),
         notices: List::new(alloc),
+        packet: None,
     })
 }
 

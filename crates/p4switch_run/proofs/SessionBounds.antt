@@ -1,5 +1,5 @@
 -- How large the numbers of a run can be, and how its turns go on.
-use Rattle.std.proofs.Common.{◌≡◌, ℕ, ◌+◌, ◌<◌, List, [], ◌∷◌, ◌++◌, refl, ap, ◌∙◌, sym, subst, inl, inr, arith, length-append}
+use Rattle.std.proofs.Common.{◌≡◌, ℕ, ◌+◌, ◌*◌, ◌<◌, ◌≤◌, Option, Some, None, List, [], ◌∷◌, ◌++◌, length, refl, ap, ◌∙◌, sym, subst, inl, inr, arith, length-append}
 use Rattle.std.proofs.lemmas.List.Sums.{fold-append}
 use Rattle.std.proofs.lemmas.List.{map-append}
 use Rattle.p4_types.specs.declared.events.Start.{Start}
@@ -8,21 +8,22 @@ use Rattle.p4_types.specs.declared.records.Record.{Record}
 use Rattle.p4_types.specs.declared.tape.TapeRecord.{TapeRecord}
 use Rattle.p4_types.specs.declared.tape.TapeRecord.TheVariants.{Call, Packet, Leave}
 use Rattle.switch_spec.specs.Answer.{LaneCall, Asks, Leaves}
-use Rattle.switch_spec.specs.Counts.{no_figures}
-use Rattle.switch_spec.specs.Play.{Played, Turn, Answers, Refuses, Carries, call_item, item_of, begun, next_call, play}
+use Rattle.switch_spec.specs.Play.{Played, Turn, Answers, Refuses, Carries, call_item, item_of, begun, next_call, next_answer, play_answer, play_out, play}
 use Rattle.switch_spec.proofs.Answers.{answer_sound}
 use Rattle.p4switch_run.specs.Session.{State, played_of, PlaysCall, Plays, IsPlayed, IsWithin, HasRoom}
+
+-- with the packet that a call makes enter
+within_out : (n : ℕ) (p : Played) (lane : ℕ) (o : Option (List ℕ)) → p.steps ≤ (n + 1) * 4096 → length p.journal ≤ n + 1 → length p.records ≤ n → IsWithin (n + 1) (play_out p lane o)
+within_out n p lane None steps calls packets = record { steps = steps; calls = calls; packets = omega (arith, packets) }
+within_out n p lane (Some packet) steps calls packets = record { steps = steps; calls = calls; packets = omega (arith, packets, length-append {A = Record}) }
 
 -- one turn more
 within_play : (n : ℕ) (p : Played) (turn : Turn) → IsWithin n p → IsWithin (n + 1) (play p turn)
 unfolding play
 within_play n p (Answers lane call) h =
-    let sound = answer_sound p.control no_figures lane (next_call lane p) call in
-    record {
-      steps = omega (arith, h.steps, sound.few_steps);
-      calls = omega (arith, h.calls, length-append {A = Entry});
-      packets = omega (arith, h.packets);
-    }
+    let sound = answer_sound p.control p.figures lane (next_call lane p) call in
+    within_out n (play_answer p lane call) lane (next_answer p lane call).packet
+    (omega (arith, h.steps, sound.few_steps)) (omega (arith, h.calls, length-append {A = Entry})) h.packets
 within_play n p (Refuses lane call) h = record {
   steps = omega (arith, h.steps);
   calls = omega (arith, h.calls, length-append {A = Entry});

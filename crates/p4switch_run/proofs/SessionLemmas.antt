@@ -1,5 +1,5 @@
 -- A call that was handled, with its entry in the journal, is one more turn of the run.
-use Rattle.std.proofs.Common.{OnOk, Result, Ok, Err, ◌≡◌, ℕ, ◌+◌, ◌-◌, ◌^◌, ◌<◌, ◌≤◌, ◌==◌, Bool, true, false, cond, List, [], ◌∷◌, ◌++◌, length, drop, slice_index, set, refl, ap, ◌∙◌, sym, subst, inl, inr, arith, add-zero, length-set, length-append}
+use Rattle.std.proofs.Common.{OnOk, IfSome, Result, Ok, Err, Option, Some, None, ◌≡◌, ℕ, ◌+◌, ◌-◌, ◌^◌, ◌<◌, ◌≤◌, ◌==◌, Bool, true, false, cond, List, [], ◌∷◌, ◌++◌, length, drop, slice_index, set, refl, ap, ◌∙◌, sym, subst, ◌⊎◌, inl, inr, arith, add-zero, length-set, length-append}
 use Rattle.std.proofs.lemmas.List.{append-nil, get_or-set_same, get_or-set_other}
 use Rattle.std.proofs.Math.Seq.{drop-append_seam}
 use Rattle.std.proofs.lemmas.List.Sums.{sum_by-append, count_by-le-length, fold-append}
@@ -11,18 +11,20 @@ use Rattle.p4_types.specs.declared.calls.Reply.{Reply}
 use Rattle.p4_types.specs.declared.journal.Entry.{Entry}
 use Rattle.p4_types.specs.declared.journal.Step.{Step}
 use Rattle.p4_types.specs.declared.records.Record.{Record}
-use Rattle.p4_types.specs.declared.tape.Who.TheVariants.{Worker}
-use Rattle.ctl_core.specs.Core.{HandledBy, IsAnswered, IsRefused, raised, replied, without_memory}
+use Rattle.p4_types.specs.declared.tape.TapeRecord.TheVariants.{Packet}
+use Rattle.p4_types.specs.declared.tape.Who.{Who}
+use Rattle.p4_types.specs.declared.tape.Who.TheVariants.{Controller, Worker}
+use Rattle.ctl_core.specs.Core.{Core, HandledBy, IsAnswered, IsRefused, raised, replied, without_memory}
 use Rattle.plane_spec.specs.Config.{Event}
-use Rattle.plane_spec.specs.Planes.{Control, apply, applied}
+use Rattle.plane_spec.specs.Planes.{Control, opened, apply, applied}
 use Rattle.switch_spec.specs.Answer.{Answer, LaneCall, called, answer, answer_to}
 use Rattle.slot_totals.specs.State.{TotalsState, figures}
-use Rattle.switch_spec.specs.Counts.{Figures, no_figures, figures_after}
+use Rattle.switch_spec.specs.Counts.{Figures, figures_after}
 use Rattle.switch_spec.specs.History.{is_unavailable, step_of, steps_of, reply_of}
 use Rattle.switch_spec.specs.Meaning.{carried}
-use Rattle.switch_spec.specs.Play.{Played, Answers, Refuses, Carries, next_call, next_packet, play}
+use Rattle.switch_spec.specs.Play.{Played, Answers, Refuses, Carries, next_call, next_packet, next_answer, play_answer, play_refusal, play_out, play_packet, play}
 use Rattle.switch_spec.proofs.Answers.{answer_to_sound}
-use Rattle.p4switch_run.specs.Session.{State, played_of, IsSession, IsHandled, IsEntered, entry_of, PlaysCall, HasRoom}
+use Rattle.p4switch_run.specs.Session.{State, played_of, IsSession, IsHandled, IsEntered, IsCarried, IsOut, IsCompleted, TakesPacket, entry_of, PlaysCall, Plays, HasRoom}
 
 -- a run by its parts
 abbrev pub run_of : Control → ℕ → List Entry → List Record → Figures → Played
@@ -63,47 +65,61 @@ new_steps old new added is = ap (λ l. filter_map step_of (drop (length old) l))
 abbrev pub with_steps : Reply → ℕ → Reply
 with_steps r n = record r { steps = n }
 
+-- The run with a call's entry, and the packet that the call makes enter: it is answered.
+record IsReplied (p : Played) (lane : ℕ) (call : LaneCall) (reply : Reply) (q : Played) : Type 0 where
+  played : q ≡ play_answer p lane call
+  packet : reply.packet ≡ (next_answer p lane call).packet
+
+-- there was no memory for it
+record IsDeclined (p : Played) (lane : ℕ) (reply : Reply) (q : Played) : Type 0 where
+  played : q ≡ play_refusal p lane
+  packet : reply.packet ≡ None
+
 answered_plays : (lane : ℕ) (call : LaneCall) (reply : Reply) (old new : State) (k : ℕ) (steps : List Step) → IsSession old → HasRoom old → lane < 32
     → IsHandled lane (called call) reply old new → k ≡ next_call lane (played_of old) → steps ≡ filter_map step_of (drop (length old.events) new.events)
-    → IsAnswered old.core.control old.core.steps old.events (answer_to old.core.control no_figures lane (raised (slice_index old.core.calls lane) 1) (called call)) reply new.core.control new.events
-    → played_of (with_entry new (entry_of lane k steps reply)) ≡ play (played_of old) (Answers lane call)
-unfolding play answer
+    → IsAnswered old.core.control old.core.steps old.events (answer_to old.core.control (figures old.totals) lane (raised (slice_index old.core.calls lane) 1) (called call)) reply new.core.control new.events
+    → IsReplied (played_of old) lane call reply (played_of (with_entry new (entry_of lane k steps reply)))
+unfolding answer
 answered_plays lane call reply old new k steps session room below h k_is steps_are a =
     let next : ℕ = next_call lane (played_of old) in
-    let f : ℕ → Answer = λ n. answer_to old.core.control no_figures lane n (called call) in
+    let f : ℕ → Answer = λ n. answer_to old.core.control (figures old.totals) lane n (called call) in
     let is : f (raised (slice_index old.core.calls lane) 1) ≡ f next = ap f (next_is old lane session room below) in
-    let sound = answer_to_sound (called call) old.core.control no_figures lane next in
+    let sound = answer_to_sound (called call) old.core.control (figures old.totals) lane next in
     let all : length (steps_of (f next).events) ≡ length (f next).events = sound.all_steps in
     let sum : raised old.core.steps (length (f next).events) ≡ old.core.steps + length (steps_of (f next).events) =
     raised_is old.core.steps (length (f next).events) (omega (arith, room.steps, all, sound.few_steps)) ∙ ap (λ n. old.core.steps + n) (sym all) in
     let reply_is : reply ≡ reply_of old.core.steps (f next) =
     a.reply_is ∙ ap (λ x. replied old.core.steps x) is ∙ ap (with_steps (replied old.core.steps (f next))) sum in
-    same_run _ _ _ _ _ _ _ _ _ _
-    (a.control ∙ ap (λ x. applied old.core.control x.events) is)
-    (h.steps ∙ ap (λ r. r.steps) reply_is)
-    (ap (λ j. j ++ entry_of lane k steps reply ∷ []) h.journal
-    ∙ ap (λ e. old.journal ++ e ∷ []) (same_entry lane k next steps (steps_of (f next).events) reply (reply_of old.core.steps (f next)) k_is
-    (steps_are ∙ new_steps old.events new.events _ (a.handed ∙ ap (λ x. old.events ++ x.events) is)) reply_is))
-    h.records (ap figures h.totals)
+    record {
+      played = same_run _ _ _ _ _ _ _ _ _ _
+          (a.control ∙ ap (λ x. applied old.core.control x.events) is)
+          (h.steps ∙ ap (λ r. r.steps) reply_is)
+          (ap (λ j. j ++ entry_of lane k steps reply ∷ []) h.journal
+          ∙ ap (λ e. old.journal ++ e ∷ []) (same_entry lane k next steps (steps_of (f next).events) reply (reply_of old.core.steps (f next)) k_is
+          (steps_are ∙ new_steps old.events new.events _ (a.handed ∙ ap (λ x. old.events ++ x.events) is)) reply_is))
+          h.records (ap figures h.totals);
+      packet = ap (λ (r : Reply). r.packet) reply_is;
+    }
 
 refused_plays : (lane : ℕ) (call : LaneCall) (reply : Reply) (old new : State) (k : ℕ) (steps : List Step)
     → IsHandled lane (called call) reply old new → k ≡ next_call lane (played_of old) → steps ≡ filter_map step_of (drop (length old.events) new.events)
     → IsRefused old.core.control old.core.steps old.events reply new.core.control new.events
-    → played_of (with_entry new (entry_of lane k steps reply)) ≡ play (played_of old) (Refuses lane call)
-unfolding play
-refused_plays lane call reply old new k steps h k_is steps_are r =
-    same_run _ _ _ _ _ _ _ _ _ _
-    r.control
-    (h.steps ∙ ap (λ x. x.steps) r.reply_is)
-    (ap (λ j. j ++ entry_of lane k steps reply ∷ []) h.journal
-    ∙ ap (λ e. old.journal ++ e ∷ []) (same_entry lane k (next_call lane (played_of old)) steps [] reply (without_memory old.core.steps) k_is
-    (steps_are ∙ new_steps old.events new.events [] (r.handed ∙ sym (append-nil old.events))) r.reply_is))
-    h.records (ap figures h.totals)
+    → IsDeclined (played_of old) lane reply (played_of (with_entry new (entry_of lane k steps reply)))
+refused_plays lane call reply old new k steps h k_is steps_are r = record {
+  played = same_run _ _ _ _ _ _ _ _ _ _
+      r.control
+      (h.steps ∙ ap (λ x. x.steps) r.reply_is)
+      (ap (λ j. j ++ entry_of lane k steps reply ∷ []) h.journal
+      ∙ ap (λ e. old.journal ++ e ∷ []) (same_entry lane k (next_call lane (played_of old)) steps [] reply (without_memory old.core.steps) k_is
+      (steps_are ∙ new_steps old.events new.events [] (r.handed ∙ sym (append-nil old.events))) r.reply_is))
+      h.records (ap figures h.totals);
+  packet = ap (λ (x : Reply). x.packet) r.reply_is;
+}
 
 plays_by : (b : Bool) (lane : ℕ) (call : LaneCall) (reply : Reply) (old new : State) (k : ℕ) (steps : List Step) → IsSession old → HasRoom old → lane < 32
     → IsHandled lane (called call) reply old new → k ≡ next_call lane (played_of old) → steps ≡ filter_map step_of (drop (length old.events) new.events)
-    → HandledBy b old.core.control old.core.steps old.events (answer_to old.core.control no_figures lane (raised (slice_index old.core.calls lane) 1) (called call)) reply new.core.control new.events
-    → PlaysCall (played_of old) lane call (played_of (with_entry new (entry_of lane k steps reply)))
+    → HandledBy b old.core.control old.core.steps old.events (answer_to old.core.control (figures old.totals) lane (raised (slice_index old.core.calls lane) 1) (called call)) reply new.core.control new.events
+    → IsReplied (played_of old) lane call reply (played_of (with_entry new (entry_of lane k steps reply))) ⊎ IsDeclined (played_of old) lane reply (played_of (with_entry new (entry_of lane k steps reply)))
 plays_by true lane call reply old new k steps session room below h k_is steps_are r = inr (refused_plays lane call reply old new k steps h k_is steps_are r)
 plays_by false lane call reply old new k steps session room below h k_is steps_are a = inl (answered_plays lane call reply old new k steps session room below h k_is steps_are a)
 
@@ -113,10 +129,10 @@ pub number_is : (lane : ℕ) (old new : State) (call : calls.Call) (reply : Repl
 number_is lane old new call reply session room below h =
     ap (λ c. slice_index c lane) h.calls ∙ get_or-set_same old.core.calls lane _ 0 (omega (arith, session.wide)) ∙ next_is old lane session room below
 
--- the run with the call's entry is one turn more
-pub call_plays : (lane : ℕ) (call : LaneCall) (reply : Reply) (old new : State) (k : ℕ) (steps : List Step) → IsSession old → HasRoom old → lane < 32
+-- the run with the call's entry
+call_plays : (lane : ℕ) (call : LaneCall) (reply : Reply) (old new : State) (k : ℕ) (steps : List Step) → IsSession old → HasRoom old → lane < 32
     → IsHandled lane (called call) reply old new → k ≡ slice_index new.core.calls lane → steps ≡ filter_map step_of (drop (length old.events) new.events)
-    → PlaysCall (played_of old) lane call (played_of (with_entry new (entry_of lane k steps reply)))
+    → IsReplied (played_of old) lane call reply (played_of (with_entry new (entry_of lane k steps reply))) ⊎ IsDeclined (played_of old) lane reply (played_of (with_entry new (entry_of lane k steps reply)))
 call_plays lane call reply old new k steps session room below h k_is steps_are =
     plays_by (is_unavailable reply.code) lane call reply old new k steps session room below h
     (k_is ∙ number_is lane old new (called call) reply session room below h) steps_are h.handled
@@ -161,51 +177,137 @@ call_session lane call reply old new entry session room below h of_lane = record
   each_counted = ap (λ (t : TotalsState). t.packets) h.totals ∙ session.each_counted ∙ ap length (sym h.records);
 }
 
--- a call that was handled, with its entry, is one more turn of a run that goes on
-pub call_turn : (lane : ℕ) (call : LaneCall) (reply : Reply) (old mid new : State) (before : ℕ) → IsSession old → HasRoom old → lane < 32 → IsHandled lane (called call) reply old mid → before ≡ length old.events
-    → IsEntered lane before reply mid new → PlaysCall (played_of old) lane call (played_of new) × IsSession new
-call_turn lane call reply old mid new before session room below h before_is entered =
-    let k = slice_index mid.core.calls lane in
-    let steps = filter_map step_of (drop before mid.events) in
-    let P : State → Type 0 = λ s. PlaysCall (played_of old) lane call (played_of s) × IsSession s in
-    subst P (sym entered) (
-      call_plays lane call reply old mid k steps session room below h refl (ap (λ n. filter_map step_of (drop n mid.events)) before_is),
-      call_session lane (called call) reply old mid (entry_of lane k steps reply) session room below h refl,
-    )
-
--- the same where there may be no memory for the entry
-pub turn_plays : {X E : Type 0} (r : Result X E) (lane : ℕ) (call : LaneCall) (reply : Reply) (old mid new : State) (before : ℕ) → IsSession old → HasRoom old → lane < 32 → IsHandled lane (called call) reply old mid
-    → before ≡ length old.events → OnOk r (IsEntered lane before reply mid new) → OnOk r (PlaysCall (played_of old) lane call (played_of new))
-turn_plays (Ok x) lane call reply old mid new before session room below h before_is entered = (call_turn lane call reply old mid new before session room below h before_is entered).0
-turn_plays (Err e) lane call reply old mid new before session room below h before_is entered = tt
-
-pub turn_session : {X E : Type 0} (r : Result X E) (lane : ℕ) (call : LaneCall) (reply : Reply) (old mid new : State) (before : ℕ) → IsSession old → HasRoom old → lane < 32 → IsHandled lane (called call) reply old mid
-    → before ≡ length old.events → OnOk r (IsEntered lane before reply mid new) → OnOk r (IsSession new)
-turn_session (Ok x) lane call reply old mid new before session room below h before_is entered = (call_turn lane call reply old mid new before session room below h before_is entered).1
-turn_session (Err e) lane call reply old mid new before session room below h before_is entered = tt
+-- ---- Packets
 
 abbrev pub with_records : State → List Record → TotalsState → State
 with_records s records totals = record s { records = records; totals = totals }
 
--- the run with a packet's record, which was counted, is one turn more
-pub packet_turn : (lane port : ℕ) (packet : List ℕ) (s t : State) (outcome : Record) (records : List Record) (totals : TotalsState) → t ≡ s
-    → outcome ≡ carried (Worker lane) (next_packet lane (played_of s)) s.core.steps s.core.control port packet → records ≡ t.records ++ outcome ∷ []
-    → figures totals ≡ figures_after (figures t.totals) outcome.hits (length packet)
-    → played_of (with_records t records totals) ≡ play (played_of s) (Carries lane port packet)
-unfolding play
-packet_turn lane port packet s t outcome records totals same outcome_is records_are figures_are =
-    ap (λ x. played_of (with_records x records totals)) same
-    ∙ ap (λ r. played_of (with_records s r totals)) (records_are ∙ ap (λ x. x.records ++ outcome ∷ []) same ∙ ap (λ o. s.records ++ o ∷ []) outcome_is)
-    ∙ ap (λ g. run_of s.core.control s.core.steps s.journal (s.records ++ carried (Worker lane) (next_packet lane (played_of s)) s.core.steps s.core.control port packet ∷ []) g)
-    (figures_are ∙ ap (λ x. figures_after (figures x.totals) outcome.hits (length packet)) same ∙ ap (λ o. figures_after (figures s.totals) o.hits (length packet)) outcome_is)
+-- a packet's record was added, and it was counted
+pub carried_is : (who : Who) (port : ℕ) (packet : List ℕ) (s t : State) (outcome : Record) (records : List Record) (totals : TotalsState) → t ≡ s
+    → outcome ≡ carried who (next_packet who (played_of s)) s.core.steps s.core.control port packet → records ≡ t.records ++ outcome ∷ []
+    → figures totals ≡ figures_after (figures t.totals) outcome.hits (length packet) → totals.packets ≡ t.totals.packets + 1
+    → IsCarried who port packet s (with_records t records totals)
+carried_is who port packet s t outcome records totals same outcome_is records_are figures_are counted_is = record {
+  core = ap (λ (x : State). x.core) same;
+  start = ap (λ (x : State). x.start) same;
+  events = ap (λ (x : State). x.events) same;
+  journal = ap (λ (x : State). x.journal) same;
+  records = records_are ∙ ap (λ (x : State). x.records ++ outcome ∷ []) same ∙ ap (λ o. s.records ++ o ∷ []) outcome_is;
+  figures_are = figures_are ∙ ap (λ (x : State). figures_after (figures x.totals) outcome.hits (length packet)) same ∙ ap (λ (o : Record). figures_after (figures s.totals) o.hits (length packet)) outcome_is;
+  counted = counted_is ∙ ap (λ (x : State). x.totals.packets + 1) same;
+}
 
--- the state with one record more, which was counted, is that of a session again
-pub packet_session : (s t : State) (outcome : Record) (records : List Record) (totals : TotalsState) → t ≡ s → IsSession s → records ≡ t.records ++ outcome ∷ [] → totals.packets ≡ t.totals.packets + 1
-    → IsSession (with_records t records totals)
-packet_session s t outcome records totals same session records_are counted_is =
-    let own : IsSession t = subst IsSession (sym same) session in record {
-      agrees = own.agrees;
-      wide = own.wide;
-      counted = own.counted;
-      each_counted = omega (arith, counted_is, own.each_counted, ap length records_are, length-append t.records (outcome ∷ []));
-    }
+-- the run with a packet more
+carried_played : (who : Who) (port : ℕ) (packet : List ℕ) (old new : State) → IsCarried who port packet old new → played_of new ≡ play_packet (played_of old) who port packet
+carried_played who port packet old new h =
+    same_run _ _ _ _ _ _ _ _ _ _ (ap (λ (k : Core). k.control) h.core) (ap (λ (k : Core). k.steps) h.core) h.journal h.records h.figures_are
+
+-- the state is that of a session again
+carried_session : (who : Who) (port : ℕ) (packet : List ℕ) (old new : State) → IsSession old → IsCarried who port packet old new → IsSession new
+carried_session who port packet old new session h = record {
+  agrees = ap (λ events. applied (opened new.start) events) h.events ∙ ap (λ start. applied (opened start) old.events) h.start ∙ session.agrees ∙ sym (ap (λ (k : Core). k.control) h.core);
+  wide = ap (λ (k : Core). length k.calls) h.core ∙ session.wide;
+  counted = λ place within.
+      ap (λ (k : Core). slice_index k.calls place) h.core ∙ session.counted place within ∙ ap (count_by (λ (entry : Entry). entry.lane == place)) (sym h.journal);
+  each_counted =
+      let added = length-append old.records (carried who (next_packet who (played_of old)) old.core.steps old.core.control port packet ∷ []) in
+      omega (arith, h.counted, session.each_counted, ap length h.records, added);
+}
+
+-- a packet of the tape is one more turn
+pub packet_plays : {X E : Type 0} (r : Result X E) (lane port : ℕ) (packet : List ℕ) (old new : State) → OnOk r (IsCarried (Worker lane) port packet old new) → OnOk r (Plays (played_of old) (Packet lane port packet) (played_of new))
+unfolding play
+packet_plays (Ok x) lane port packet old new h = carried_played (Worker lane) port packet old new h
+packet_plays (Err e) lane port packet old new h = tt
+
+pub packet_session : {X E : Type 0} (r : Result X E) (lane port : ℕ) (packet : List ℕ) (old new : State) → IsSession old → OnOk r (IsCarried (Worker lane) port packet old new) → OnOk r (IsSession new)
+packet_session (Ok x) lane port packet old new session h = carried_session (Worker lane) port packet old new session h
+packet_session (Err e) lane port packet old new session h = tt
+
+pub room_for : (s : State) → IsSession s → HasRoom s → TakesPacket s
+room_for s session room = record { room = room.packets; counted = session.each_counted }
+
+-- ---- Calls with the packets that they make enter
+
+out_played : (lane : ℕ) (o : Option (List ℕ)) (old new : State) → IsOut lane o old new → played_of new ≡ play_out (played_of old) lane o
+out_played lane None old new h = ap played_of h
+out_played lane (Some packet) old new h = carried_played (Controller lane) old.core.control.cpu packet old new h
+
+out_session : (lane : ℕ) (o : Option (List ℕ)) (old new : State) → IsSession old → IsOut lane o old new → IsSession new
+out_session lane None old new session h = subst IsSession (sym h) session
+out_session lane (Some packet) old new session h = carried_session (Controller lane) old.core.control.cpu packet old new session h
+
+-- the entry of a lane's latest call
+abbrev entry_at : ℕ → ℕ → Reply → State → Entry
+entry_at lane before reply s = entry_of lane (slice_index s.core.calls lane) (filter_map step_of (drop before s.events)) reply
+
+-- the packet ran before the entry was added, and might have run behind it
+out_entered : (lane before : ℕ) (reply : Reply) (o : Option (List ℕ)) (old mid : State) → IsOut lane o old mid → IsOut lane o (with_entry old (entry_at lane before reply old)) (with_entry mid (entry_at lane before reply mid))
+out_entered lane before reply None old mid h = ap (λ (s : State). with_entry s (entry_at lane before reply s)) h
+out_entered lane before reply (Some packet) old mid h = record {
+  core = h.core;
+  start = h.start;
+  events = h.events;
+  journal = ap (λ j. j ++ entry_at lane before reply mid ∷ []) h.journal
+      ∙ ap (λ (k : Core). old.journal ++ entry_of lane (slice_index k.calls lane) (filter_map step_of (drop before mid.events)) reply ∷ []) h.core
+      ∙ ap (λ events. old.journal ++ entry_of lane (slice_index old.core.calls lane) (filter_map step_of (drop before events)) reply ∷ []) h.events;
+  records = h.records;
+  figures_are = h.figures_are;
+  counted = h.counted;
+}
+
+replied_plays : (lane : ℕ) (call : LaneCall) (reply : Reply) (p : Played) (s new : State) → IsOut lane reply.packet s new → IsReplied p lane call reply (played_of s) ⊎ IsDeclined p lane reply (played_of s) → PlaysCall p lane call (played_of new)
+unfolding play
+replied_plays lane call reply p s new out (inl h) =
+    inl (out_played lane reply.packet s new out ∙ ap (λ q. play_out q lane reply.packet) h.played ∙ ap (play_out (play_answer p lane call) lane) h.packet)
+replied_plays lane call reply p s new out (inr h) = inr (out_played lane reply.packet s new out ∙ ap (λ q. play_out q lane reply.packet) h.played ∙ ap (play_out (play_refusal p lane) lane) h.packet)
+
+-- a call that was handled, with its packet and its entry, is one more turn of a run that goes on
+call_turn : (lane : ℕ) (call : LaneCall) (reply : Reply) (old mid new : State) (before : ℕ) → IsSession old → HasRoom old → lane < 32 → IsHandled lane (called call) reply old mid → before ≡ length old.events
+    → IsCompleted lane before reply mid new → PlaysCall (played_of old) lane call (played_of new) × IsSession new
+call_turn lane call reply old mid new before session room below h before_is done =
+    let k = slice_index mid.core.calls lane in
+    let steps = filter_map step_of (drop before mid.events) in
+    let entered : State = with_entry mid (entry_of lane k steps reply) in
+    let out = out_entered lane before reply reply.packet mid done.mid done.out in
+    let plays = call_plays lane call reply old mid k steps session room below h refl (ap (λ n. filter_map step_of (drop n mid.events)) before_is) in
+    let again = call_session lane (called call) reply old mid (entry_of lane k steps reply) session room below h refl in
+    let P : State → Type 0 = λ s. PlaysCall (played_of old) lane call (played_of s) × IsSession s in
+    subst P (sym done.entered) (
+      replied_plays lane call reply (played_of old) entered (with_entry done.mid (entry_at lane before reply done.mid)) out plays,
+      out_session lane reply.packet entered (with_entry done.mid (entry_at lane before reply done.mid)) again out,
+    )
+
+-- the same where there may be no memory for the entry
+pub turn_plays : {X E : Type 0} (r : Result X E) (lane : ℕ) (call : LaneCall) (reply : Reply) (old mid new : State) (before : ℕ) → IsSession old → HasRoom old → lane < 32 → IsHandled lane (called call) reply old mid
+    → before ≡ length old.events → OnOk r (IsCompleted lane before reply mid new) → OnOk r (PlaysCall (played_of old) lane call (played_of new))
+turn_plays (Ok x) lane call reply old mid new before session room below h before_is done = (call_turn lane call reply old mid new before session room below h before_is done).0
+turn_plays (Err e) lane call reply old mid new before session room below h before_is done = tt
+
+pub turn_session : {X E : Type 0} (r : Result X E) (lane : ℕ) (call : LaneCall) (reply : Reply) (old mid new : State) (before : ℕ) → IsSession old → HasRoom old → lane < 32 → IsHandled lane (called call) reply old mid
+    → before ≡ length old.events → OnOk r (IsCompleted lane before reply mid new) → OnOk r (IsSession new)
+turn_session (Ok x) lane call reply old mid new before session room below h before_is done = (call_turn lane call reply old mid new before session room below h before_is done).1
+turn_session (Err e) lane call reply old mid new before session room below h before_is done = tt
+
+pub completed : {X E : Type 0} (r : Result X E) (lane before : ℕ) (reply : Reply) (old mid new : State) → IsOut lane reply.packet old mid → OnOk r (IsEntered lane before reply mid new) → OnOk r (IsCompleted lane before reply old new)
+completed (Ok x) lane before reply old mid new out entered = record { mid = mid; out = out; entered = entered }
+completed (Err e) lane before reply old mid new out entered = tt
+
+short_by : (b : Bool) (lane : ℕ) (call : calls.Call) (reply : Reply) (old new : State) (k : ℕ)
+    → HandledBy b old.core.control old.core.steps old.events (answer_to old.core.control (figures old.totals) lane k call) reply new.core.control new.events
+    → IfSome reply.packet (λ packet. length packet ≤ 9216)
+short_by true lane call reply old new k h = let P : Reply → Type 0 = λ r. IfSome r.packet (λ packet. length packet ≤ 9216) in subst P (sym h.reply_is) tt
+short_by false lane call reply old new k h =
+    let P : Reply → Type 0 = λ r. IfSome r.packet (λ packet. length packet ≤ 9216) in
+    subst P (sym h.reply_is) (answer_to_sound call old.core.control (figures old.totals) lane k).short_packet
+
+-- a packet that a call makes enter is short
+pub short_packet : (lane : ℕ) (call : calls.Call) (reply : Reply) (old new : State) → IsHandled lane call reply old new → IfSome reply.packet (λ packet. length packet ≤ 9216)
+short_packet lane call reply old new h = short_by (is_unavailable reply.code) lane call reply old new (raised (slice_index old.core.calls lane) 1) h.handled
+
+-- there is room for it
+pub takes_packet : (lane : ℕ) (call : calls.Call) (reply : Reply) (old new : State) → IsSession old → HasRoom old → IsHandled lane call reply old new → TakesPacket new
+takes_packet lane call reply old new session room h = record {
+  room = omega (arith, room.packets, ap length h.records);
+  counted = ap (λ (t : TotalsState). t.packets) h.totals ∙ session.each_counted ∙ ap length (sym h.records);
+}

@@ -1,5 +1,5 @@
 -- The run so far as the program keeps it.
-use Rattle.std.specs.Prelude.{◌≡◌, ℕ, ◌-◌, ◌*◌, ◌^◌, ◌<◌, ◌≤◌, ◌==◌, ◌⊎◌, List, [], ◌∷◌, ◌++◌, drop, length, slice_index, set}
+use Rattle.std.specs.Prelude.{◌≡◌, ℕ, ◌+◌, ◌-◌, ◌*◌, ◌^◌, ◌<◌, ◌≤◌, ◌==◌, ◌⊎◌, List, [], ◌∷◌, ◌++◌, drop, length, slice_index, set, Option, Some, None}
 use Rattle.std.specs.List.{filter_map}
 use Rattle.p4_types.specs.declared.calls.Call as calls
 use Rattle.p4_types.specs.declared.calls.Reply.{Reply}
@@ -8,15 +8,18 @@ use Rattle.p4_types.specs.declared.journal.Entry.{Entry}
 use Rattle.p4_types.specs.declared.journal.Step.{Step}
 use Rattle.p4_types.specs.declared.records.Record.{Record}
 use Rattle.p4_types.specs.declared.tape.TapeRecord.{TapeRecord}
+use Rattle.p4_types.specs.declared.tape.Who.{Who}
+use Rattle.p4_types.specs.declared.tape.Who.TheVariants.{Controller}
 use Rattle.p4_types.specs.declared.tape.TapeRecord.TheVariants.{Call, Packet, Leave}
 use Rattle.ctl_core.specs.Core.{Core, Handled, raised}
 use Rattle.plane_spec.specs.Config.{Event}
 use Rattle.plane_spec.specs.Planes.{opened, applied}
 use Rattle.switch_spec.specs.Answer.{LaneCall, Asks, Leaves, answer_to}
 use Rattle.slot_totals.specs.State.{TotalsState, figures}
-use Rattle.switch_spec.specs.Counts.{no_figures}
+use Rattle.switch_spec.specs.Counts.{figures_after}
+use Rattle.switch_spec.specs.Meaning.{carried}
 use Rattle.switch_spec.specs.History.{step_of}
-use Rattle.switch_spec.specs.Play.{Played, Turn, Answers, Refuses, Carries, items_of, play, played}
+use Rattle.switch_spec.specs.Play.{Played, Turn, Answers, Refuses, Carries, next_packet, items_of, play, played}
 use Rattle.p4switch_run.specs.Tallies.{Tallies}
 
 -- what the program keeps of a run: its control and counts, its events, the journal, the records of packets, and what counters have counted
@@ -43,7 +46,7 @@ pub record IsSession (s : State) : Type 0 where
 
 -- a call of a lane was handled, with this reply; it is not in the journal yet
 pub record IsHandled (lane : ℕ) (call : calls.Call) (reply : Reply) (old new : State) : Type 0 where
-  pub handled : Handled old.core.control old.core.steps old.events (answer_to old.core.control no_figures lane (raised (slice_index old.core.calls lane) 1) call) reply new.core.control new.events
+  pub handled : Handled old.core.control old.core.steps old.events (answer_to old.core.control (figures old.totals) lane (raised (slice_index old.core.calls lane) 1) call) reply new.core.control new.events
   pub steps : new.core.steps ≡ reply.steps
   pub calls : new.core.calls ≡ set old.core.calls lane (raised (slice_index old.core.calls lane) 1)
   pub agrees : applied (opened new.start) new.events ≡ new.core.control
@@ -66,6 +69,32 @@ with_journal s journal = record s { journal = journal }
 -- the entry of a lane's latest call was added to the journal, with the steps of the events behind the first so many
 abbrev pub IsEntered : ℕ → ℕ → Reply → State → State → Type 0
 IsEntered lane before reply old new = new ≡ with_journal old (old.journal ++ entry_of lane (slice_index old.core.calls lane) (filter_map step_of (drop before old.events)) reply ∷ [])
+
+-- A lane's packet ran through the state as it is, and was counted.
+pub record IsCarried (who : Who) (port : ℕ) (packet : List ℕ) (old new : State) : Type 0 where
+  pub core : new.core ≡ old.core
+  pub start : new.start ≡ old.start
+  pub events : new.events ≡ old.events
+  pub journal : new.journal ≡ old.journal
+  pub records : new.records ≡ old.records ++ carried who (next_packet who (played_of old)) old.core.steps old.core.control port packet ∷ []
+  pub figures_are : figures new.totals ≡ figures_after (figures old.totals) (carried who (next_packet who (played_of old)) old.core.steps old.core.control port packet).hits (length packet)
+  pub counted : new.totals.packets ≡ old.totals.packets + 1
+
+-- the packet that a lane's call makes enter, if it makes one, ran at the CPU port
+abbrev pub IsOut : ℕ → Option (List ℕ) → State → State → Type 0
+IsOut lane None old new = new ≡ old
+IsOut lane (Some packet) old new = IsCarried (Controller lane) old.core.control.cpu packet old new
+
+-- The packet that a call makes enter ran, and then the call's entry was added to the journal.
+pub record IsCompleted (lane before : ℕ) (reply : Reply) (old new : State) : Type 0 where
+  pub mid : State
+  pub out : IsOut lane reply.packet old mid
+  pub entered : IsEntered lane before reply mid new
+
+-- there is room for a packet more, and those so far were counted
+pub record TakesPacket (s : State) : Type 0 where
+  pub room : length s.records < 2 ^ 32 - 1
+  pub counted : s.totals.packets ≡ length s.records
 
 -- what a record of the tape makes of the run
 abbrev pub Plays : Played → TapeRecord → Played → Type 0

@@ -1,6 +1,7 @@
 //! The packets of a run, each with its number on its lane.
-ghost use Rattle.std.specs.Prelude.{◌≡◌, ◌==◌, ◌+◌, ◌-◌, ◌^◌, ◌<◌, ◌++◌, [], ◌∷◌, length, count_by, OnOk, OnErr};
+ghost use Rattle.std.specs.Prelude.{◌≡◌, ◌+◌, ◌-◌, ◌^◌, ◌<◌, ◌++◌, [], ◌∷◌, length, count_by, OnOk, OnErr};
 ghost use Rattle.switch_spec.specs.ReportText.{is_who};
+ghost use Rattle.p4switch_run.specs.Tallies.{IsLane};
 
 use list_types::{List, NoMemory};
 use p4_types::records::Record;
@@ -8,25 +9,24 @@ use p4_types::tape::Who;
 use std::alloc::Global;
 use std::marker::Model;
 
-/// The packets of the workers of a run, which a contract sees as the list of their records.
+/// The packets of a run, which a contract sees as the list of their records.
 #[derive(Drop)]
 pub struct Packets {
     records: List<Record>,
-    counts: [u32; 16],
+    workers: [u32; 16],
+    controllers: [u32; 32],
 }
 
 impl Model for Packets {
     ghost use Rattle.std.specs.Prelude.{List};
     ghost use Rattle.p4_types.specs.declared.records.Record.{Record};
-    ghost use Rattle.p4_types.specs.declared.tape.Who.TheVariants.{Worker};
-    ghost use Rattle.switch_spec.specs.ReportText.{is_who};
-    ghost use Rattle.p4switch_run.specs.Tallies.{Tallies};
+    ghost use Rattle.p4switch_run.specs.Tallies.{AreTallied};
 
     ghost Value = { List Record };
 
     ghost view = { λ p. p.records };
 
-    ghost invariant = { λ p. Tallies (λ lane r. is_who (Worker lane) r.who) 16 p.counts p.records };
+    ghost invariant = { λ p. AreTallied p.workers p.controllers p.records };
 }
 
 impl Packets {
@@ -35,28 +35,35 @@ impl Packets {
     {
         Packets {
             records: List::new(alloc),
-            counts: [0; 16],
+            workers: [0; 16],
+            controllers: [0; 32],
         }
     }
 
-    /// How many packets a worker's lane has brought.
-    pub fn count_of(&self, lane: u16) -> u32
-        requires { lane < 16 }
-        ensures { result ≡ count_by (λ r. is_who (Who.Worker lane) r.who) self.now }
+    /// How many packets a lane has brought.
+    pub fn count_of(&self, who: Who) -> u32
+        requires { IsLane who }
+        ensures { result ≡ count_by (λ r. is_who who r.who) self.now }
     {
-        self.counts[lane as usize]
+        match who {
+            Who::Worker(lane) => self.workers[lane as usize],
+            Who::Controller(lane) => self.controllers[lane as usize],
+        }
     }
 
-    /// Adds a packet of a worker's lane.
-    pub fn push(&mut self, lane: u16, packet: Record) -> Result<(), NoMemory>
-        requires lane { lane < 16 }
-        requires of_lane { packet.who ≡ Who.Worker lane }
+    /// Adds a packet of a lane.
+    pub fn push(&mut self, packet: Record) -> Result<(), NoMemory>
+        requires lane { IsLane packet.who }
         requires room { length self.old < 2 ^ 32 - 1 }
         ensures ok { OnOk result (self.new ≡ self.old ++ packet ∷ []) }
         ensures err { OnErr result (self.new ≡ self.old) }
     {
+        let who = packet.who;
         self.records.push(packet)?;
-        self.counts[lane as usize] += 1;
+        match who {
+            Who::Worker(lane) => self.workers[lane as usize] += 1,
+            Who::Controller(lane) => self.controllers[lane as usize] += 1,
+        }
         Ok(())
     }
 

@@ -4,7 +4,6 @@
 mod check;
 mod journal;
 mod program;
-mod published;
 mod replay;
 mod session;
 mod status;

@@ -1,16 +1,16 @@
 //! A run in lockstep: calls are answered and packets carried, one after another.
-ghost use Rattle.std.specs.Prelude.{◌≡◌, ◌<◌, ◌≤◌, ◌+◌, ◌++◌, [], ◌∷◌, length, map, All, OnOk, IfOk};
+ghost use Rattle.std.specs.Prelude.{◌≡◌, ◌<◌, ◌≤◌, ◌+◌, ◌++◌, [], ◌∷◌, length, map, All, OnOk, IfOk, IfSome};
 ghost use Rattle.p4v1_read.specs.Calls.{call_of};
 ghost use Rattle.switch_spec.specs.Meaning.{carried, record_of, receiver, to_lane};
 ghost use Rattle.switch_spec.specs.Play.{begun, played_report};
 ghost use Rattle.switch_spec.specs.Tape.{IsRecord};
-ghost use Rattle.p4switch_run.specs.Session.{played_of, IsSession, IsHandled, IsEntered, PlaysCall, Plays, IsPlayed, HasRoom};
+ghost use Rattle.p4switch_run.specs.Session.{played_of, IsSession, IsHandled, IsEntered, IsCarried, IsOut, IsCompleted, TakesPacket, PlaysCall, Plays, IsPlayed, HasRoom};
+ghost use Rattle.p4switch_run.specs.Tallies.{IsLane};
 ghost use Rattle.switch_spec.specs.Answer.{Asks, Leaves};
 
 use crate::journal::Packets;
-use crate::published::Published;
 use ctl_core::Control;
-use list_types::{List, NoMemory};
+use list_types::{ByteList, List, NoMemory};
 use p4_types::calls::{Call, Method, Reply};
 use p4_types::events::Start;
 use p4_types::journal::{Entry, Report};
@@ -20,6 +20,7 @@ use p4_types::tape::{TapeRecord, Who};
 use p4v1_read::read_call;
 use pkt_worker::{Scratch, Verdict};
 use plane_image::Image;
+use run_press::Published;
 use slot_totals::Totals;
 use std::alloc::Global;
 use std::marker::Model;
@@ -46,7 +47,7 @@ impl Model for Session {
 
     ghost Value = { State };
 
-    ghost view = { λ s. record { core = s.control; start = s.published.start; events = s.published.events.items; journal = s.journal; records = s.packets; totals = s.totals } };
+    ghost view = { λ s. record { core = s.control; start = s.published.start; events = s.published.events; journal = s.journal; records = s.packets; totals = s.totals } };
 }
 
 // Packets for a controller, which go to this lane or to none.
@@ -146,7 +147,8 @@ impl Session {
         requires session { IsSession self.old }
         ensures { IsHandled lane call.now result self.old self.new }
     {
-        self.control.handle(alloc, lane, call, &mut self.published)
+        self.control
+            .handle(alloc, lane, call, &mut self.published, &self.totals)
     }
 
     // The reply to a lane's next call, for which there is no memory.
@@ -196,7 +198,70 @@ impl Session {
         Ok(())
     }
 
-    /// Answers a controller's next call. Without memory for the journal the run cannot go on.
+    // Runs a lane's next packet through the state as it is, and counts it.
+    fn carry(&mut self, alloc: Global, who: Who, port: u16, packet: &[u8]) -> Result<(), NoMemory>
+        requires lane { IsLane who }
+        requires size { length packet.now ≤ 9216 }
+        requires takes { TakesPacket self.old }
+        ensures { OnOk result (IsCarried who port packet.now self.old self.new) }
+    {
+        let index = self.packets.count_of(who) + 1;
+        let outcome = carry(
+            alloc,
+            self.control.image(),
+            who,
+            index,
+            port,
+            packet,
+            &mut self.scratch,
+            &mut self.verdict,
+        )?;
+        self.totals.add(outcome.hits.as_slice(), packet.len())?;
+        self.packets.push(outcome)?;
+        Ok(())
+    }
+
+    // Runs the packet that a lane's call makes enter, if it makes one, at the CPU port.
+    fn carry_out(
+        &mut self,
+        alloc: Global,
+        lane: u16,
+        packet: &Option<ByteList>,
+    ) -> Result<(), NoMemory>
+        requires lane { lane < 32 }
+        requires size { IfSome packet.now (λ packet. length packet ≤ 9216) }
+        requires takes { TakesPacket self.old }
+        ensures { OnOk result (IsOut lane packet.now self.old self.new) }
+    {
+        match packet {
+            None => Ok(()),
+            Some(packet) => {
+                let cpu = self.control.image().cpu();
+                self.carry(alloc, Who::Controller(lane), cpu, packet.as_slice())
+            }
+        }
+    }
+
+    // Runs the packet that a lane's latest call makes enter, then adds the call's entry to the journal.
+    fn complete(
+        &mut self,
+        alloc: Global,
+        lane: u16,
+        before: usize,
+        reply: Reply,
+    ) -> Result<(), NoMemory>
+        requires lane { lane < 32 }
+        requires before { before ≤ length self.old.events }
+        requires size { IfSome reply.packet (λ packet. length packet ≤ 9216) }
+        requires takes { TakesPacket self.old }
+        ensures { OnOk result (IsCompleted lane before reply self.old self.new) }
+    {
+        self.carry_out(alloc, lane, &reply.packet)?;
+        self.enter(alloc, lane, before, reply)
+    }
+
+    /// Answers a controller's next call, and runs the packet that it makes enter. Without memory for the journal the run
+    /// cannot go on.
     pub fn call(
         &mut self,
         alloc: Global,
@@ -212,7 +277,7 @@ impl Session {
     {
         let before = self.published.len();
         let reply = self.reply(alloc, lane, method, message);
-        self.enter(alloc, lane, before, reply)
+        self.complete(alloc, lane, before, reply)
     }
 
     /// Ends a controller's stream, which is a call too.
@@ -225,7 +290,7 @@ impl Session {
     {
         let before = self.published.len();
         let reply = self.handle(alloc, lane, &Call::Leave);
-        self.enter(alloc, lane, before, reply)
+        self.complete(alloc, lane, before, reply)
     }
 
     /// Runs a worker's next packet.
@@ -243,20 +308,7 @@ impl Session {
         ensures plays { OnOk result (Plays (played_of self.old) (TapeRecord.Packet lane port packet.now) (played_of self.new)) }
         ensures session { OnOk result (IsSession self.new) }
     {
-        let index = self.packets.count_of(lane) + 1;
-        let outcome = carry(
-            alloc,
-            self.control.image(),
-            Who::Worker(lane),
-            index,
-            port,
-            packet,
-            &mut self.scratch,
-            &mut self.verdict,
-        )?;
-        self.totals.add(outcome.hits.as_slice(), packet.len())?;
-        self.packets.push(lane, outcome)?;
-        Ok(())
+        self.carry(alloc, Who::Worker(lane), port, packet)
     }
 
     // Takes the next record of the tape.

@@ -98,7 +98,8 @@ impl Image {
 
     /// The plane that controllers write and read: the staged one where there is one, else the active one.
     pub fn target(&self) -> Option<&Plane>
-        ensures { option_map (λ plane. plane.now.now) result ≡ target self.now.now }
+        ensures plane { option_map (λ plane. plane.now.now) result ≡ target self.now.now }
+        ensures slots { CellsBelowIn slot_limit (option_map (λ plane. plane.now.now) result) }
     {
         self.planes.target()
     }

@@ -1,2 +1,4 @@
+pub mod CellSteps
 pub mod Chunks
 pub mod Selected
+pub mod Shown

@@ -1,26 +1,45 @@
 -- What is answered, part by part.
-use Rattle.std.specs.Prelude.{◌≡◌, ℕ, ℤ, ◌||◌, ◌&&◌, Bool, List, ◌∷◌, ◌++◌, map}
+use Rattle.std.specs.Prelude.{◌≡◌, ℕ, ℤ, ◌||◌, ◌&&◌, Bool, List, [], ◌∷◌, ◌++◌, ◌+◌, ◌≤◌, map}
 use Rattle.std.specs.Ordering.{int_eq}
 use Rattle.p4_types.specs.declared.info.Info.{Info}
 use Rattle.p4_types.specs.declared.messages.ActionProfileGroup.{ActionProfileGroup}
 use Rattle.p4_types.specs.declared.messages.ActionProfileMember.{ActionProfileMember}
+use Rattle.p4_types.specs.declared.messages.CounterEntry.{CounterEntry}
 use Rattle.p4_types.specs.declared.messages.Entity.{Entity}
 use Rattle.p4_types.specs.declared.messages.Entity.TheVariants as entities
 use Rattle.p4_types.specs.declared.profiles.Group.{Group}
 use Rattle.p4_types.specs.declared.profiles.Member.{Member}
 use Rattle.p4_types.specs.declared.table.Entry.{Entry}
-use Rattle.std.specs.List.{filter_map}
+use Rattle.std.specs.List.{filter_map, flat_map, cons_option}
 use Rattle.plane_spec.specs.Planes.{Plane, default_entry}
-use Rattle.switch_spec.specs.Reading.{is_asked_id, shown_entry, shown_default, shown_member, shown_group, response_bytes, chunks}
+use Rattle.switch_spec.specs.Counts.{Figures}
+use Rattle.switch_spec.specs.declared.cells.Cells.{Cells}
+use Rattle.plane_spec.specs.Entries.{slot_limit}
+use Rattle.switch_spec.specs.Reading.{is_asked_id, shown_entry, shown_direct, shown_default, shown_member, shown_group, response_bytes, chunks}
+use Rattle.plane_read.specs.declared.selecting.View.{View}
+use Rattle.plane_read.specs.declared.selecting.View.TheVariants as views
 use Rattle.plane_spec.specs.UpdateRules.{is_zero}
 
 -- an entry has the priority; 0 asks for any
 abbrev pub has_priority : ℤ → Entry → Bool
 has_priority priority entry = is_zero priority || int_eq entry.name.priority priority
 
--- entries, each as it is answered
-abbrev pub answered : Info → List Entry → List Entity
-answered info list = map entities.TableEntry (map (shown_entry info) list)
+-- what is answered of an entry: itself, or its direct counter, if it has one
+abbrev pub shown_as : View → Figures → Info → Entry → List Entity
+shown_as views.Entries g info entry = entities.TableEntry (shown_entry info entry) ∷ []
+shown_as views.Counters g info entry = map entities.DirectCounterEntry (cons_option (shown_direct g info entry) [])
+
+-- what is answered of entries
+abbrev pub answered : View → Figures → Info → List Entry → List Entity
+answered view g info list = flat_map (shown_as view g info) list
+
+-- cells, each as it is answered
+abbrev pub answered_cells : List CounterEntry → List Entity
+answered_cells list = map entities.CounterEntry list
+
+-- the cells have slots that there are
+pub record HasSlots (cells : Cells) : Type 0 where
+  pub within : cells.first + cells.size ≤ slot_limit
 
 -- the default actions of tables, each as it is answered
 abbrev pub answered_defaults : Plane → List ℕ → List Entity

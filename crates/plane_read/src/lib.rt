@@ -1,6 +1,8 @@
-//! What a Read of a plane selects, and how it is answered: table entries, members, groups and digest entries.
+//! What a Read of a plane selects, and how it is answered: table entries, members, groups, digest entries, and what counters have counted.
 #![tactic(auto)]
 
+mod cells;
+mod counts;
 mod defaults;
 mod digests;
 mod groups;
@@ -13,4 +15,5 @@ mod selecting;
 mod showing;
 mod weights;
 
+pub use counts::Counts;
 pub use reading::read;

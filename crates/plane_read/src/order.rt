@@ -4,6 +4,7 @@ ghost use Rattle.switch_spec.specs.Reading.{placed};
 
 use list_types::NoMemory;
 use p4_types::messages::{FieldMatch, Param};
+use switch_spec::cells::Cells;
 
 /// An item with a number.
 pub(crate) trait Numbered: Drop {
@@ -26,6 +27,14 @@ impl Numbered for Param {
 
     fn number(&self) -> u32 {
         self.param_id
+    }
+}
+
+impl Numbered for Cells {
+    ghost key = { λ cells. cells.counter };
+
+    fn number(&self) -> u32 {
+        self.counter
     }
 }
 

@@ -1,7 +1,7 @@
 //! Why a Read is refused.
 ghost use Rattle.std.specs.Prelude.{◌≡◌, is_some, map};
 ghost use Rattle.plane_spec.specs.Objects.{action_profile_of};
-ghost use Rattle.switch_spec.specs.Reading.{match_refusal, entry_refusal, id_refusal, entity_refusal, first_of};
+ghost use Rattle.switch_spec.specs.Reading.{match_refusal, entry_refusal, id_refusal, direct_refusal, entity_refusal, first_of};
 ghost use Rattle.write_rules.specs.Widths.{HasWidths};
 
 use p4_types::code::Code;
@@ -62,6 +62,15 @@ fn profile_refusal(info: &P4Info, id: u32) -> Option<Code>
     id_refusal(id, info.action_profile(id).is_some())
 }
 
+fn direct_refusal(info: &P4Info, asked: &Option<TableEntry>) -> Option<Code>
+    ensures { result ≡ direct_refusal info.now asked.now }
+{
+    match asked {
+        None => None,
+        Some(asked) => entry_refusal(info, asked),
+    }
+}
+
 fn entity_refusal(info: &P4Info, entity: &Option<Entity>) -> Option<Code>
     ensures { result ≡ entity_refusal info.now entity.now }
 {
@@ -72,6 +81,10 @@ fn entity_refusal(info: &P4Info, entity: &Option<Entity>) -> Option<Code>
         Some(Entity::DigestEntry(asked)) => {
             id_refusal(asked.digest_id, info.digest(asked.digest_id).is_some())
         }
+        Some(Entity::CounterEntry(asked)) => {
+            id_refusal(asked.counter_id, info.counter(asked.counter_id).is_some())
+        }
+        Some(Entity::DirectCounterEntry(asked)) => direct_refusal(info, &asked.table_entry),
         _ => Some(Code::Unimplemented),
     }
 }

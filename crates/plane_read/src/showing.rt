@@ -1,7 +1,7 @@
 //! Entries as they are answered.
 ghost use Rattle.std.specs.Prelude.{◌≡◌, map, fold, IfOk, OnOk, option_map};
 ghost use Rattle.std.specs.List.{filter_map, zip};
-ghost use Rattle.switch_spec.specs.Reading.{shown_kind, shown_match, matches_in, param_of, params_in, shown_action, shown_entry_action, plain_entry, shown_entry, shown_default, placed};
+ghost use Rattle.switch_spec.specs.Reading.{shown_kind, shown_match, matches_in, param_of, params_in, shown_action, shown_entry_action, bare_entry, plain_entry, shown_entry, shown_name, shown_default, placed};
 
 use crate::{order, weights};
 use canon_bytes::write;
@@ -181,19 +181,14 @@ fn shown_entry_action(
     }
 }
 
-// An entry of this table, match, priority and action, and nothing else.
-fn plain_entry(
-    table: u32,
-    matches: List<FieldMatch>,
-    priority: i32,
-    action: TableAction,
-) -> TableEntry
-    ensures { result ≡ plain_entry table matches priority action }
+// An entry of this table, match and priority, and nothing else.
+fn bare_entry(table: u32, matches: List<FieldMatch>, priority: i32) -> TableEntry
+    ensures { result ≡ bare_entry table matches priority }
 {
     TableEntry {
         table_id: table,
         matches,
-        action: Some(Some(action)),
+        action: None,
         priority,
         controller_metadata: 0,
         meter_config: false,
@@ -202,6 +197,33 @@ fn plain_entry(
         idle_timeout_ns: 0,
         time_since_last_hit: false,
     }
+}
+
+// The same with an action.
+fn plain_entry(
+    table: u32,
+    matches: List<FieldMatch>,
+    priority: i32,
+    action: TableAction,
+) -> TableEntry
+    ensures { result ≡ plain_entry table matches priority action }
+{
+    let mut entry = bare_entry(table, matches, priority);
+    entry.action = Some(Some(action));
+    entry
+}
+
+/// The name of an entry as it is answered: table, match and priority.
+pub(crate) fn shown_name(
+    alloc: Global,
+    info: &P4Info,
+    entry: &Entry,
+) -> Result<TableEntry, NoMemory>
+    ensures { IfOk result (λ shown. shown ≡ shown_name info.now entry.now) }
+{
+    let name = &entry.name;
+    let matches = matches_in(alloc, info.table(name.table), name.tests.as_slice())?;
+    Ok(bare_entry(name.table, matches, name.priority))
 }
 
 /// An entry as it is answered: its fields by rising id, in canonical form.

@@ -7,6 +7,7 @@ use crate::counting;
 use crate::figure::{Figure, NOTHING};
 use list_types::NoMemory;
 use p4_types::records::HitMark;
+use plane_read::Counts;
 use std::alloc::Global;
 use std::marker::Model;
 
@@ -81,5 +82,14 @@ impl Totals {
             Some(figure) => *figure,
             None => NOTHING,
         }
+    }
+}
+
+impl Counts for Totals {
+    ghost figures = { λ totals. figures totals };
+
+    fn count(&self, slot: u32) -> (u64, u64) {
+        let figure = self.figure(slot);
+        (figure.packets, figure.bytes)
     }
 }

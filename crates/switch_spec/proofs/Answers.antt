@@ -1,5 +1,5 @@
 -- What holds of each answer.
-use Rattle.std.proofs.Common.{arith, suc, ◌+◌, ◌≤◌, ◌≡◌, ℕ, Bool, true, false, not, List, [], ◌∷◌, ◌++◌, length, map, fold, Option, Some, None, Result, Ok, Err, is_some, ◌==◌, nat_lt, IfErr, refl, ap, ◌∙◌, sym, if◌then◌else◌}
+use Rattle.std.proofs.Common.{arith, suc, ◌+◌, ◌≤◌, ◌≡◌, ℕ, Bool, true, false, not, List, [], ◌∷◌, ◌++◌, length, map, fold, Option, Some, None, Result, Ok, Err, is_some, ◌==◌, nat_lt, IfSome, IfOk, IfErr, refl, ap, ◌∙◌, sym, if◌then◌else◌}
 use Rattle.std.specs.List.{filter_map}
 use Rattle.std.specs.Result.{result_ok}
 use Rattle.p4_types.specs.declared.calls.Call.{Call}
@@ -22,6 +22,7 @@ use Rattle.p4_types.specs.declared.events.Event.TheVariants as events
 use Rattle.p4_types.specs.declared.events.Origin.{Origin}
 use Rattle.p4_types.specs.declared.info.Table.{Table}
 use Rattle.p4_types.specs.declared.messages.MasterArbitrationUpdate.{MasterArbitrationUpdate}
+use Rattle.p4_types.specs.declared.messages.PacketOut.{PacketOut}
 use Rattle.p4_types.specs.declared.messages.StreamMessageRequest.{StreamMessageRequest}
 use Rattle.p4_types.specs.declared.messages.StreamMessageRequest.TheVariants as requests
 use Rattle.p4_types.specs.declared.messages.Uint128.{Uint128}
@@ -30,15 +31,19 @@ use Rattle.p4_types.specs.declared.messages.WriteRequest.{WriteRequest}
 use Rattle.p4_types.specs.declared.table.Change.{Change}
 use Rattle.role_arbiter.specs.declared.sessions.Session.{Session}
 use Rattle.role_arbiter.specs.Arbitration.{cause, asked}
-use Rattle.role_arbiter.specs.State.{session_in}
-use Rattle.switch_spec.specs.Answer.{Answer, LaneCall, plain, write_reply, write_refusal, write_unless, continued, all_or_nothing, batch, origin, has_failed, atomicity_of, is_atomic, unreadable, read_reply, arbitration_unless, unserved_answer, stream_answer, leave_of, answer_to, answer, called, EventsIgnoreFigures}
+use Rattle.role_arbiter.specs.State.{session_in, status_of}
+use Rattle.packet_out.specs.Entering.{packet_out_fields, fills, packet_bytes, unless_long, entering}
+use Rattle.packet_out.specs.declared.rule.PacketRule.{PacketRule}
+use Rattle.packet_out.specs.declared.rule.PacketRule.TheVariants as rules
+use Rattle.switch_spec.specs.PacketsOut.{is_primary, entering_in, packet_result}
+use Rattle.switch_spec.specs.Answer.{Answer, LaneCall, plain, write_reply, write_refusal, write_unless, continued, all_or_nothing, batch, origin, has_failed, atomicity_of, is_atomic, unreadable, read_reply, arbitration_unless, packet_reply, unserved_answer, stream_answer, leave_of, answer_to, answer, called, EventsIgnoreFigures}
 use Rattle.switch_spec.specs.Counts.{Figures}
 use Rattle.plane_spec.specs.Config.{Event}
 use Rattle.plane_spec.specs.Legal.{MayChanges, Legal}
 use Rattle.plane_spec.specs.Objects.{table_of}
 use Rattle.plane_spec.specs.Planes.{Control, Plane, target, primary, is_of_primary, with_roles, change_applied, outcome, applied, outcomes, state_after}
 use Rattle.plane_spec.proofs.Steady.{change_steady, fold_closed, fold_next}
-use Rattle.switch_spec.specs.Reading.{entry_refusal_in, entity_refusal, first_of, read_unless, read_in, read_result}
+use Rattle.switch_spec.specs.Reading.{entry_refusal_in, direct_refusal, entity_refusal, first_of, read_unless, read_in, read_result}
 use Rattle.switch_spec.specs.History.{is_unavailable, steps_of}
 use Rattle.switch_spec.proofs.Settings.{set_sound, get_sound}
 use Rattle.switch_spec.proofs.Sound.{IsSound, Available, plain_sound}
@@ -134,13 +139,17 @@ id_available : (known : Bool) → Available (if known then None else Some codes.
 id_available true = tt
 id_available false = refl
 
+direct_available : (info : Info) (o : Option TableEntry) → Available (direct_refusal info o)
+direct_available info None = tt
+direct_available info (Some asked) = entry_available _ _ _ (in_available (table_of asked.table_id info) asked)
+
 entity_available : (info : Info) (asked : Option Entity) → Available (entity_refusal info asked)
 entity_available info None = refl
 entity_available info (Some (entities.TableEntry asked)) = entry_available _ _ _ (in_available (table_of asked.table_id info) asked)
 entity_available info (Some (entities.ActionProfileMember x)) = id_available _
 entity_available info (Some (entities.ActionProfileGroup x)) = id_available _
-entity_available info (Some (entities.CounterEntry x)) = refl
-entity_available info (Some (entities.DirectCounterEntry x)) = refl
+entity_available info (Some (entities.CounterEntry x)) = id_available _
+entity_available info (Some (entities.DirectCounterEntry x)) = direct_available info x.table_entry
 entity_available info (Some (entities.DigestEntry x)) = id_available _
 entity_available info (Some (entities.Other x)) = refl
 
@@ -176,9 +185,9 @@ reply_available : (b : Bool) (errors : List Error) → is_unavailable (write_rep
 reply_available true errors = refl
 reply_available false errors = refl
 
-reply_packet : (b : Bool) (errors : List Error) → (write_reply b errors).packet ≡ None
-reply_packet true errors = refl
-reply_packet false errors = refl
+reply_packet : (b : Bool) (errors : List Error) → IfSome (write_reply b errors).packet (λ packet. length packet ≤ 9216)
+reply_packet true errors = tt
+reply_packet false errors = tt
 
 continued_sound : (c : Control) (by : Origin) (updates : List Update) → is_of_primary (primary c by.role) by.election_id ≡ true → length updates ≤ 4096
     → IsSound c (continued by (outcomes c by.role updates))
@@ -186,7 +195,7 @@ continued_sound c by updates primary size =
     let list = made_by c by.role updates in
     let few = made_few updates c by.role in record {
       available = reply_available _ _;
-      no_packet = reply_packet _ _;
+      short_packet = reply_packet _ _;
       all_steps = each_steps by list ∙ sym (each_length by list);
       legal = λ alive rest later. each_legal list c by alive (made_may updates c by primary) rest later;
       still_open = λ alive. ap (λ d. d.closed) (each_applied by list c) ∙ fold_closed list c ∙ alive;
@@ -224,7 +233,7 @@ atomic_sound : (c : Control) (by : Origin) (updates : List Update) → is_of_pri
 atomic_sound c by updates primary size =
     let sound = batch_unless (has_failed (outcomes c by.role updates)) c by (made_by c by.role updates) (omega (arith, made_few updates c by.role, size)) (made_may updates c by primary) in record {
       available = reply_available _ _;
-      no_packet = reply_packet _ _;
+      short_packet = reply_packet _ _;
       all_steps = sound.all_steps;
       legal = sound.legal;
       still_open = λ alive. sound.closed ∙ alive;
@@ -242,21 +251,21 @@ write_sound (Some code) c lane k request is available = plain_sound c code _ ava
 write_sound None c lane k request is available =
     let h = passed c request is in written_sound (is_atomic (atomicity_of request.atomicity)) c (origin lane k request) request.updates h.primary h.size
 
-unless_available : (o : Option Code) (plane : Plane) (list : List (Option Entity)) → Available o → IfErr (read_unless o plane list) (λ code. is_unavailable code ≡ false)
-unless_available None plane list h = tt
-unless_available (Some code) plane list h = h
+unless_available : (o : Option Code) (g : Figures) (plane : Plane) (list : List (Option Entity)) → Available o → IfErr (read_unless o g plane list) (λ code. is_unavailable code ≡ false)
+unless_available None g plane list h = tt
+unless_available (Some code) g plane list h = h
 
-plane_available : (o : Option Plane) (request : ReadRequest) → IfErr (read_in o request) (λ code. is_unavailable code ≡ false)
-plane_available None request = refl
-plane_available (Some plane) request = unless_available _ plane request.entities (first_available plane.config.info request.entities)
+plane_available : (o : Option Plane) (g : Figures) (request : ReadRequest) → IfErr (read_in o g request) (λ code. is_unavailable code ≡ false)
+plane_available None g request = refl
+plane_available (Some plane) g request = unless_available _ g plane request.entities (first_available plane.config.info request.entities)
 
 device_available : (b : Bool) (r : Result (List (List ℕ)) Code) → IfErr r (λ code. is_unavailable code ≡ false) → IfErr (if b then r else Err codes.NotFound) (λ code. is_unavailable code ≡ false)
 device_available true r h = h
 device_available false r h = refl
 
-read_available : (c : Control) (request : ReadRequest) → IfErr (read_result c request) (λ code. is_unavailable code ≡ false)
+read_available : (c : Control) (g : Figures) (request : ReadRequest) → IfErr (read_result c g request) (λ code. is_unavailable code ≡ false)
 unfolding read_result
-read_available c request = device_available (request.device_id == c.device) _ (plane_available (target c) request)
+read_available c g request = device_available (request.device_id == c.device) _ (plane_available (target c) g request)
 
 read_sound : (c : Control) (r : Result (List (List ℕ)) Code) → IfErr r (λ code. is_unavailable code ≡ false) → IsSound c (read_reply r)
 read_sound c (Ok messages) h = plain_sound c codes.Ok messages refl
@@ -275,7 +284,7 @@ arbitration_unless_sound : (o : Option ArbitrationRule) (c : Control) (lane k : 
 arbitration_unless_sound (Some rule) c lane k update is = plain_sound c (arbitration_code rule) [] (rule_available rule)
 arbitration_unless_sound None c lane k update is = record {
   available = refl;
-  no_packet = refl;
+  short_packet = tt;
   all_steps = refl;
   legal = λ alive rest later. ((alive, record { update = update; asks = refl; no_cause = is refl }), later);
   still_open = λ alive. alive;
@@ -301,7 +310,7 @@ unreadable_sound c methods.Capabilities = plain_sound c codes.InvalidArgument _ 
 unserved_sound : (c : Control) (lane : ℕ) → IsSound c (unserved_answer lane)
 unserved_sound c lane = record {
   available = refl;
-  no_packet = refl;
+  short_packet = tt;
   all_steps = refl;
   legal = λ alive rest later. later;
   still_open = λ alive. alive;
@@ -309,10 +318,53 @@ unserved_sound c lane = record {
   few_numbers = omega arith;
 }
 
+packet_sound : (c : Control) (lane : ℕ) (packet : PacketOut) (r : Result (List ℕ) PacketRule) → IfOk r (λ bytes. length bytes ≤ 9216) → IsSound c (packet_reply lane packet r)
+packet_sound c lane packet (Ok bytes) short = record {
+  available = refl;
+  short_packet = short;
+  all_steps = refl;
+  legal = λ alive rest later. later;
+  still_open = λ alive. alive;
+  few_steps = omega arith;
+  few_numbers = omega arith;
+}
+packet_sound c lane packet (Err rule) short = record {
+  available = refl;
+  short_packet = tt;
+  all_steps = refl;
+  legal = λ alive rest later. later;
+  still_open = λ alive. alive;
+  few_steps = omega arith;
+  few_numbers = omega arith;
+}
+
+-- what enters is short
+abbrev IsShort : Result (List ℕ) PacketRule → Type 0
+IsShort r = IfOk r (λ bytes. length bytes ≤ 9216)
+
+long_by : (b : Bool) (bytes : List ℕ) → nat_lt 9216 (length bytes) ≡ b → IsShort (if b then Err rules.P4 else Ok bytes)
+long_by true bytes h = tt
+long_by false bytes h = not_lt 9216 (length bytes) h
+
+unless_by : (b : Bool) (r : Result (List ℕ) PacketRule) (rule : PacketRule) → IsShort r → IsShort (if b then r else Err rule)
+unless_by true r rule h = h
+unless_by false r rule h = tt
+
+plane_short : (o : Option Plane) (packet : PacketOut) → IsShort (entering_in o packet)
+unfolding entering
+plane_short None packet = tt
+plane_short (Some plane) packet =
+    let bytes = packet_bytes (packet_out_fields plane.config.info) packet in
+    unless_by (fills (packet_out_fields plane.config.info) packet.metadata) (unless_long bytes) rules.P3 (long_by (nat_lt 9216 (length bytes)) bytes refl)
+
+result_short : (c : Control) (lane : ℕ) (packet : PacketOut) → IsShort (packet_result c lane packet)
+unfolding packet_result
+result_short c lane packet = unless_by (is_primary (status_of c.roles lane)) (entering_in c.active packet) rules.P1 (plane_short c.active packet)
+
 stream_sound : (message : Option StreamMessageRequest) (c : Control) (lane k : ℕ) → IsSound c (stream_answer c lane k message)
 stream_sound None c lane k = plain_sound c codes.InvalidArgument [] refl
 stream_sound (Some (requests.Arbitration update)) c lane k = arbitration_sound c lane k update
-stream_sound (Some (requests.Packet packet)) c lane k = unserved_sound c lane
+stream_sound (Some (requests.Packet packet)) c lane k = packet_sound c lane packet _ (result_short c lane packet)
 stream_sound (Some (requests.DigestAck acknowledged)) c lane k = plain_sound c codes.Ok [] refl
 stream_sound (Some (requests.Other other)) c lane k = unserved_sound c lane
 
@@ -320,7 +372,7 @@ leave_sound : (o : Option Session) (c : Control) (lane k : ℕ) → session_in c
 leave_sound None c lane k is = plain_sound c codes.Ok [] refl
 leave_sound (Some session) c lane k is = record {
   available = refl;
-  no_packet = refl;
+  short_packet = tt;
   all_steps = refl;
   legal = λ alive rest later. ((alive, ap is_some is), later);
   still_open = λ alive. alive;
@@ -330,7 +382,7 @@ leave_sound (Some session) c lane k is = record {
 
 pub answer_to_sound : (call : Call) (c : Control) (g : Figures) (lane k : ℕ) → IsSound c (answer_to c g lane k call)
 answer_to_sound (calls.Write request) c g lane k = write_sound _ c lane k request refl (write_available (request.device_id == c.device) (is_of_primary (primary c request.role_id) request.election_id) (is_some (target c)) (is_some (atomicity_of request.atomicity)) (nat_lt 4096 (length request.updates)))
-answer_to_sound (calls.Read request) c g lane k = read_sound c _ (read_available c request)
+answer_to_sound (calls.Read request) c g lane k = read_sound c _ (read_available c g request)
 answer_to_sound (calls.Set request) c g lane k = set_sound c lane k request
 answer_to_sound (calls.Get request) c g lane k = get_sound c request
 answer_to_sound (calls.Stream message) c g lane k = stream_sound message c lane k
@@ -342,9 +394,13 @@ pub answer_sound : (c : Control) (g : Figures) (lane k : ℕ) (call : LaneCall) 
 unfolding answer
 answer_sound c g lane k call = answer_to_sound (called call) c g lane k
 
+reads_nothing : (r : Result (List (List ℕ)) Code) → (read_reply r).events ≡ []
+reads_nothing (Ok messages) = refl
+reads_nothing (Err code) = refl
+
 ignore_in : (call : Call) (c : Control) (g h : Figures) (lane k : ℕ) → (answer_to c g lane k call).events ≡ (answer_to c h lane k call).events
 ignore_in (calls.Write request) c g h lane k = refl
-ignore_in (calls.Read request) c g h lane k = refl
+ignore_in (calls.Read request) c g h lane k = reads_nothing _ ∙ sym (reads_nothing _)
 ignore_in (calls.Set request) c g h lane k = refl
 ignore_in (calls.Get request) c g h lane k = refl
 ignore_in (calls.Stream message) c g h lane k = refl

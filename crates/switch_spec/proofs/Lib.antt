@@ -1,4 +1,5 @@
 pub mod Answers
+pub mod CpuPort
 pub mod Counters
 pub mod Determined
 pub mod Fitting

@@ -41,7 +41,7 @@ breaks c rule = plain_sound c codes.InvalidArgument _ refl
 nothing : (c : Control) → SetSound c (Ok [])
 nothing c = record {
   available = refl;
-  no_packet = refl;
+  short_packet = tt;
   all_steps = refl;
   legal = λ alive rest later. later;
   still_open = λ alive. alive;
@@ -52,7 +52,7 @@ nothing c = record {
 saves : (c : Control) (by : Origin) (config : Config) → MaySet c by → MayMake c config → SetSound c (Ok (events.Save by config ∷ []))
 saves c by config set make = record {
   available = refl;
-  no_packet = refl;
+  short_packet = tt;
   all_steps = refl;
   legal = λ alive rest later. ((alive, set, make), later);
   still_open = λ alive. alive;
@@ -63,7 +63,7 @@ saves c by config set make = record {
 commits : (c : Control) (by : Origin) (config : Config) → MaySet c by → MayMake c config → SetSound c (Ok (events.Commit by (contents.Fresh config) ∷ []))
 commits c by config set make = record {
   available = refl;
-  no_packet = refl;
+  short_packet = tt;
   all_steps = refl;
   legal = λ alive rest later. ((alive, set, make), later);
   still_open = λ alive. alive;
@@ -83,7 +83,7 @@ staged_next (Some plane) c = refl
 promotes : (c : Control) (by : Origin) → MaySet c by → is_some c.staged ≡ true → SetSound c (Ok (events.Commit by contents.Staged ∷ []))
 promotes c by set staged = record {
   available = refl;
-  no_packet = refl;
+  short_packet = tt;
   all_steps = refl;
   legal = λ alive rest later. ((alive, set, staged), later);
   still_open = λ alive. staged_closed c.staged c ∙ alive;

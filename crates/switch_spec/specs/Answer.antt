@@ -19,6 +19,7 @@ use Rattle.p4_types.specs.declared.events.Event.TheVariants as events
 use Rattle.p4_types.specs.declared.events.Origin.{Origin}
 use Rattle.p4_types.specs.declared.messages.Error.{Error}
 use Rattle.p4_types.specs.declared.messages.MasterArbitrationUpdate.{MasterArbitrationUpdate}
+use Rattle.p4_types.specs.declared.messages.PacketOut.{PacketOut}
 use Rattle.p4_types.specs.declared.messages.StreamMessageRequest.{StreamMessageRequest}
 use Rattle.p4_types.specs.declared.messages.StreamMessageRequest.TheVariants as requests
 use Rattle.p4_types.specs.declared.messages.Update.{Update}
@@ -32,6 +33,8 @@ use Rattle.role_arbiter.specs.Telling.{told_at_arbitration, told_at_leave}
 use Rattle.plane_spec.specs.Planes.{Control, target, primary, is_of_primary, outcome, change_applied, outcomes}
 use Rattle.plane_spec.specs.Config.{Event}
 use Rattle.switch_spec.specs.Notices.{standing_notices, unserved_notice}
+use Rattle.packet_out.specs.declared.rule.PacketRule.{PacketRule}
+use Rattle.switch_spec.specs.PacketsOut.{packet_result, packet_notice}
 use Rattle.switch_spec.specs.Reading.{read_result}
 use Rattle.switch_spec.specs.Counts.{Figures}
 use Rattle.switch_spec.specs.declared.refusals.SetRefusal.{SetRefusal}
@@ -174,11 +177,16 @@ arbitration_answer c lane k update = arbitration_unless (if update.device_id == 
 abbrev pub unserved_answer : ℕ → Answer
 unserved_answer lane = record (plain codes.Ok []) { notices = unserved_notice lane ∷ [] }
 
--- A message of the stream channel. Packets of controllers are not served yet; an acknowledgement changes nothing.
+-- a packet of a controller enters at the CPU port, or its lane is told by which rule it is refused; it makes no step
+abbrev pub packet_reply : ℕ → PacketOut → Result (List ℕ) PacketRule → Answer
+packet_reply lane packet (Ok bytes) = record (plain codes.Ok []) { packet = Some bytes }
+packet_reply lane packet (Err rule) = record (plain codes.Ok []) { notices = packet_notice lane rule packet ∷ [] }
+
+-- A message of the stream channel. An acknowledgement changes nothing.
 abbrev pub stream_answer : Control → ℕ → ℕ → Option StreamMessageRequest → Answer
 stream_answer c lane k None = plain codes.InvalidArgument []
 stream_answer c lane k (Some (requests.Arbitration update)) = arbitration_answer c lane k update
-stream_answer c lane k (Some (requests.Packet packet)) = unserved_answer lane
+stream_answer c lane k (Some (requests.Packet packet)) = packet_reply lane packet (packet_result c lane packet)
 stream_answer c lane k (Some (requests.DigestAck acknowledged)) = plain codes.Ok []
 stream_answer c lane k (Some (requests.Other other)) = unserved_answer lane
 
@@ -192,10 +200,10 @@ leave_of (Some session) c lane k =
 abbrev pub leave_answer : Control → ℕ → ℕ → Answer
 leave_answer c lane k = leave_of (session_in c.roles.sessions lane) c lane k
 
--- By what is asked. The figures are for a Read of counters, which is not served yet.
+-- By what is asked. The figures are for a Read of counters.
 abbrev pub answer_to : Control → Figures → ℕ → ℕ → Call → Answer
 answer_to c g lane k (calls.Write request) = write_answer c lane k request
-answer_to c g lane k (calls.Read request) = read_reply (read_result c request)
+answer_to c g lane k (calls.Read request) = read_reply (read_result c g request)
 answer_to c g lane k (calls.Set request) = set_reply (set_result c lane k request)
 answer_to c g lane k (calls.Get request) = get_reply (get_result c request)
 answer_to c g lane k (calls.Stream message) = stream_answer c lane k message

@@ -1,16 +1,12 @@
 -- What counters keep by slots, beside what the records of packets say (P4Runtime 1.3.0, "Counter & DirectCounter Entries").
-use Rattle.std.specs.Prelude.{◌≡◌, ℕ, List, length, fold}
+use Rattle.std.specs.Prelude.{◌≡◌, List, fold}
 use Rattle.std.specs.List.{AllByRecursion}
 use Rattle.p4_types.specs.declared.events.Start.{Start}
 use Rattle.plane_spec.specs.Config.{Event}
 use Rattle.plane_spec.specs.Legal.{Legal}
 use Rattle.plane_spec.specs.Planes.{opened, applied}
-use Rattle.switch_spec.specs.Counts.{Figures, no_figures, figures_after, Carried, counts_in, cells_in, count_lines, cell_lines}
+use Rattle.switch_spec.specs.Counts.{Figures, no_figures, Carried, counted, counts_in, cells_in, count_lines, cell_lines}
 use Rattle.switch_spec.specs.Report.{Fits}
-
--- the figures behind one packet more
-abbrev pub counted : Figures → Carried → Figures
-counted g carried = figures_after g carried.outcome.hits (length carried.arrival.1)
 
 -- the figures of all records
 abbrev pub figures_of : List Carried → Figures

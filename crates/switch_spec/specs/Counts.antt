@@ -85,6 +85,10 @@ is_of_slot slot (marks.Cell other) = other == slot
 abbrev pub figures_after : Figures → List HitMark → ℕ → Figures
 figures_after g hits bytes slot = ((g slot).0 + count_by (is_of_slot slot) hits, (g slot).1 + count_by (is_of_slot slot) hits * bytes)
 
+-- the figures behind one packet more
+abbrev pub counted : Figures → Carried → Figures
+counted g carried = figures_after g carried.outcome.hits (length carried.arrival.1)
+
 -- the line of an entry that has this slot, if it has one
 abbrev pub line_by_slot : Figures → Entry → Option ℕ → Option CountLine
 line_by_slot g entry None = None

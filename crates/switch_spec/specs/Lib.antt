@@ -4,6 +4,7 @@ pub mod Counts
 pub mod History
 pub mod Meaning
 pub mod Notices
+pub mod PacketsOut
 pub mod Pipelines
 pub mod Play
 pub mod Reading

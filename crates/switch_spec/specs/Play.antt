@@ -1,14 +1,15 @@
 -- A run in one pass over the tape.
-use Rattle.std.specs.Prelude.{ℕ, ◌+◌, ◌==◌, List, [], ◌∷◌, ◌++◌, count_by, fold, length, map}
+use Rattle.std.specs.Prelude.{ℕ, ◌+◌, ◌==◌, List, [], ◌∷◌, ◌++◌, count_by, fold, length, map, Option, Some, None}
 use Rattle.p4_types.specs.declared.events.Start.{Start}
 use Rattle.p4_types.specs.declared.journal.Entry.{Entry}
 use Rattle.p4_types.specs.declared.journal.Report.{Report}
 use Rattle.p4_types.specs.declared.records.Record.{Record}
 use Rattle.p4_types.specs.declared.tape.TapeRecord.{TapeRecord}
 use Rattle.p4_types.specs.declared.tape.TapeRecord.TheVariants.{Call, Packet, Leave}
-use Rattle.p4_types.specs.declared.tape.Who.TheVariants.{Worker}
+use Rattle.p4_types.specs.declared.tape.Who.{Who}
+use Rattle.p4_types.specs.declared.tape.Who.TheVariants.{Controller, Worker}
 use Rattle.switch_spec.specs.Counts.{Figures, no_figures, figures_after, count_lines, cell_lines}
-use Rattle.switch_spec.specs.Answer.{LaneCall, Asks, Leaves, answer}
+use Rattle.switch_spec.specs.Answer.{Answer, LaneCall, Asks, Leaves, answer}
 use Rattle.plane_spec.specs.Planes.{Control, opened, applied}
 use Rattle.switch_spec.specs.History.{answered, refused_for_memory}
 use Rattle.switch_spec.specs.Meaning.{carried}
@@ -32,25 +33,38 @@ begun start = record { control = opened start; steps = 0; journal = []; records 
 abbrev pub next_call : ℕ → Played → ℕ
 next_call lane p = count_by (λ entry. entry.lane == lane) p.journal + 1
 
--- the number of a worker's next packet
-abbrev pub next_packet : ℕ → Played → ℕ
-next_packet lane p = count_by (λ r. is_who (Worker lane) r.who) p.records + 1
+-- the number of a lane's next packet
+abbrev pub next_packet : Who → Played → ℕ
+next_packet who p = count_by (λ r. is_who who r.who) p.records + 1
 
--- a call is answered in the state as it is
-abbrev pub play_call : Played → ℕ → LaneCall → Played
-play_call p lane call =
-    let entry = answered p.control no_figures p.steps lane (next_call lane p) call in
+-- a packet runs through the state as it is
+abbrev pub play_packet : Played → Who → ℕ → List ℕ → Played
+play_packet p who port packet =
+    let outcome = carried who (next_packet who p) p.steps p.control port packet in
+    record p { records = p.records ++ outcome ∷ []; figures = figures_after p.figures outcome.hits (length packet) }
+
+-- what a lane's next call is answered in the state as it is
+abbrev pub next_answer : Played → ℕ → LaneCall → Answer
+next_answer p lane call = answer p.control p.figures lane (next_call lane p) call
+
+-- the call has its answer
+abbrev pub play_answer : Played → ℕ → LaneCall → Played
+play_answer p lane call =
+    let entry = answered p.control p.figures p.steps lane (next_call lane p) call in
     record p {
-      control = applied p.control (answer p.control no_figures lane (next_call lane p) call).events;
+      control = applied p.control (next_answer p lane call).events;
       steps = entry.reply.steps;
       journal = p.journal ++ entry ∷ [];
     }
 
--- a packet runs through the state as it is
-abbrev pub play_packet : Played → ℕ → ℕ → List ℕ → Played
-play_packet p lane port packet =
-    let outcome = carried (Worker lane) (next_packet lane p) p.steps p.control port packet in
-    record p { records = p.records ++ outcome ∷ []; figures = figures_after p.figures outcome.hits (length packet) }
+-- the packet that a call makes enter, if it makes one, runs at the CPU port
+abbrev pub play_out : Played → ℕ → Option (List ℕ) → Played
+play_out p lane None = p
+play_out p lane (Some packet) = play_packet p (Controller lane) p.control.cpu packet
+
+-- a call is answered in the state as it is, and the packet that it makes enter runs directly after it
+abbrev pub play_call : Played → ℕ → LaneCall → Played
+play_call p lane call = play_out (play_answer p lane call) lane (next_answer p lane call).packet
 
 -- a call for which there is no memory leaves the state
 abbrev pub play_refusal : Played → ℕ → Played
@@ -81,7 +95,7 @@ items_of turns = map item_of turns
 unfoldable pub play : Played → Turn → Played
 play p (Answers lane call) = play_call p lane call
 play p (Refuses lane call) = play_refusal p lane
-play p (Carries lane port packet) = play_packet p lane port packet
+play p (Carries lane port packet) = play_packet p (Worker lane) port packet
 
 -- the run of these turns
 abbrev pub played : Start → List Turn → Played

@@ -1,10 +1,11 @@
 -- What a Read selects, and how it is answered (P4Runtime 1.3.0, "Read RPC"; order and size of the messages: this project's profile).
-use Rattle.std.specs.Prelude.{ℕ, zero, suc, ◌-◌, ◌^◌, min, ℤ, pos, ◌==◌, ◌&&◌, ◌||◌, not, nat_lt, nat_le, Bool, true, false, if◌then◌else◌, List, [], ◌∷◌, map, filter, fold, take, drop, length, Option, Some, None, is_some, option_map, Result, Ok, Err}
+use Rattle.std.specs.Prelude.{ℕ, zero, suc, ◌+◌, ◌-◌, ◌^◌, min, ℤ, pos, negsuc, ◌==◌, ◌&&◌, ◌||◌, not, nat_lt, nat_le, Bool, true, false, if◌then◌else◌, List, [], ◌∷◌, map, filter, find, fold, take, drop, length, Option, Some, None, is_some, option_map, Result, Ok, Err}
 use Rattle.std.specs.List.{filter_map, flat_map, zip}
 use Rattle.std.specs.Ordering.{int_eq}
 use Rattle.p4_types.specs.declared.code.Code.{Code}
 use Rattle.p4_types.specs.declared.code.Code.TheVariants as codes
 use Rattle.p4_types.specs.declared.info.Action as infos
+use Rattle.p4_types.specs.declared.info.Counter.{Counter}
 use Rattle.p4_types.specs.declared.info.Info.{Info}
 use Rattle.p4_types.specs.declared.info.MatchField.{MatchField}
 use Rattle.p4_types.specs.declared.info.Table.{Table}
@@ -12,12 +13,16 @@ use Rattle.p4_types.specs.declared.messages.Action.{Action}
 use Rattle.p4_types.specs.declared.messages.ActionProfileAction.{ActionProfileAction}
 use Rattle.p4_types.specs.declared.messages.ActionProfileGroup.{ActionProfileGroup}
 use Rattle.p4_types.specs.declared.messages.ActionProfileMember.{ActionProfileMember}
+use Rattle.p4_types.specs.declared.messages.CounterData.{CounterData}
+use Rattle.p4_types.specs.declared.messages.CounterEntry.{CounterEntry}
 use Rattle.p4_types.specs.declared.messages.DigestEntry.{DigestEntry}
+use Rattle.p4_types.specs.declared.messages.DirectCounterEntry.{DirectCounterEntry}
 use Rattle.p4_types.specs.declared.messages.Entity.{Entity}
 use Rattle.p4_types.specs.declared.messages.Entity.TheVariants as entities
 use Rattle.p4_types.specs.declared.messages.FieldMatch.{FieldMatch}
 use Rattle.p4_types.specs.declared.messages.FieldMatchKind.{FieldMatchKind}
 use Rattle.p4_types.specs.declared.messages.FieldMatchKind.TheVariants as given
+use Rattle.p4_types.specs.declared.messages.Index.{Index}
 use Rattle.p4_types.specs.declared.messages.Member as messages
 use Rattle.p4_types.specs.declared.messages.Param.{Param}
 use Rattle.p4_types.specs.declared.messages.ReadRequest.{ReadRequest}
@@ -42,6 +47,8 @@ use Rattle.wire_fields.specs.Spelling.{spelling}
 use Rattle.plane_spec.specs.Planes.{Control, Plane, target, default_entry}
 use Rattle.plane_spec.specs.Entries.{same_name}
 use Rattle.plane_spec.specs.Objects.{table_of, action_of, action_profile_of, digest_of}
+use Rattle.switch_spec.specs.Counts.{Figures}
+use Rattle.switch_spec.specs.declared.cells.Cells.{Cells}
 use Rattle.plane_spec.specs.UpdateRules.{is_zero, is_optional, has_match, is_malformed_match, is_too_wide, is_canonical_match, name_of}
 
 -- a match breaks U6, U7 or U8 in its own part
@@ -67,11 +74,22 @@ entry_refusal info asked =
 abbrev pub id_refusal : ℕ → Bool → Option Code
 id_refusal id known = if (id == 0) || known then None else Some codes.NotFound
 
--- why an entity that is asked for is refused; counters are not served yet
+-- the indirect counter with this id, if the program has one
+abbrev pub counter_of : ℕ → Info → Option Counter
+counter_of id info = find (λ counter. counter.preamble.id == id) info.counters
+
+-- why the table entry of a direct counter that is asked for is refused; without one, all are asked for
+abbrev pub direct_refusal : Info → Option TableEntry → Option Code
+direct_refusal info None = None
+direct_refusal info (Some asked) = entry_refusal info asked
+
+-- why an entity that is asked for is refused
 abbrev pub entity_refusal : Info → Option Entity → Option Code
 entity_refusal info (Some (entities.TableEntry asked)) = entry_refusal info asked
 entity_refusal info (Some (entities.ActionProfileMember asked)) = id_refusal asked.action_profile_id (is_some (action_profile_of asked.action_profile_id info))
 entity_refusal info (Some (entities.ActionProfileGroup asked)) = id_refusal asked.action_profile_id (is_some (action_profile_of asked.action_profile_id info))
+entity_refusal info (Some (entities.CounterEntry asked)) = id_refusal asked.counter_id (is_some (counter_of asked.counter_id info))
+entity_refusal info (Some (entities.DirectCounterEntry asked)) = direct_refusal info asked.table_entry
 entity_refusal info (Some (entities.DigestEntry asked)) = id_refusal asked.digest_id (is_some (digest_of asked.digest_id info))
 entity_refusal info _ = Some codes.Unimplemented
 
@@ -155,12 +173,12 @@ shown_share share = record { member_id = share.member; weight = weight_number sh
 abbrev pub shown_group : Group → ActionProfileGroup
 shown_group group = record { action_profile_id = group.profile; group_id = group.id; members = map shown_share group.shares; max_size = pos 0 }
 
--- an entry of this table, match, priority and action, and nothing else
-abbrev pub plain_entry : ℕ → List FieldMatch → ℤ → TableAction → TableEntry
-plain_entry table matches priority action = record {
+-- an entry of this table, match and priority, and nothing else
+abbrev pub bare_entry : ℕ → List FieldMatch → ℤ → TableEntry
+bare_entry table matches priority = record {
   table_id = table;
   matches = matches;
-  action = Some (Some action);
+  action = None;
   priority = priority;
   controller_metadata = 0;
   meter_config = false;
@@ -169,6 +187,10 @@ plain_entry table matches priority action = record {
   idle_timeout_ns = pos 0;
   time_since_last_hit = false;
 }
+
+-- the same with an action
+abbrev pub plain_entry : ℕ → List FieldMatch → ℤ → TableAction → TableEntry
+plain_entry table matches priority action = record (bare_entry table matches priority) { action = Some (Some action) }
 
 -- an entry as it is answered: its fields by rising id
 abbrev pub shown_entry : Info → Entry → TableEntry
@@ -227,13 +249,74 @@ selected_groups plane asked = map shown_group (filter (λ group. is_asked_id ask
 abbrev pub selected_digests : Plane → DigestEntry → List DigestEntry
 selected_digests plane asked = filter (λ entry. is_asked_id asked.digest_id entry.digest_id) plane.digests
 
--- what is answered for an entity that is asked for; for counters nothing yet
-abbrev pub selected : Plane → Option Entity → List Entity
-selected plane (Some (entities.TableEntry asked)) = map entities.TableEntry (selected_entries plane asked)
-selected plane (Some (entities.ActionProfileMember asked)) = map entities.ActionProfileMember (selected_members plane asked)
-selected plane (Some (entities.ActionProfileGroup asked)) = map entities.ActionProfileGroup (selected_groups plane asked)
-selected plane (Some (entities.DigestEntry asked)) = map entities.DigestEntry (selected_digests plane asked)
-selected plane _ = []
+-- a figure as a number of its type (int64); those that are counted are far below its greatest
+abbrev pub count_number : ℕ → ℤ
+count_number count = pos (min count (2 ^ 63 - 1))
+
+-- what a counter has counted as it is answered (CounterData)
+abbrev pub shown_data : ℕ × ℕ → CounterData
+shown_data x = record { byte_count = count_number x.1; packet_count = count_number x.0 }
+
+-- a cell of a counter as it is answered
+abbrev pub shown_cell : Figures → ℕ → ℕ → ℕ → CounterEntry
+shown_cell g counter slot index = record { counter_id = counter; index = Some (record { index = count_number index }); content = Some (shown_data (g slot)) }
+
+-- so many cells of a counter, from this slot and this index on
+abbrev pub shown_cells : ℕ → Figures → ℕ → ℕ → ℕ → List CounterEntry
+shown_cells zero g counter slot index = []
+shown_cells (suc more) g counter slot index = shown_cell g counter slot index ∷ shown_cells more g counter (slot + 1) (index + 1)
+
+-- where the cells of counters stand, which have the slots from this one on
+abbrev pub cells_at : ℕ → List Counter → List Cells
+cells_at slot [] = []
+cells_at slot (counter ∷ counters) = (record { counter = counter.preamble.id; first = slot; size = counter.size }) ∷ cells_at (slot + counter.size) counters
+
+-- the cell of an index, if the counter has it
+abbrev pub cell_of_index : Figures → Cells → ℤ → List CounterEntry
+cell_of_index g cells (pos index) = if nat_lt index cells.size then shown_cell g cells.counter (cells.first + index) index ∷ [] else []
+cell_of_index g cells (negsuc index) = []
+
+-- the cells of a counter that are asked for: that of an index, or all
+abbrev pub selected_cells : Figures → Option Index → Cells → List CounterEntry
+selected_cells g None cells = shown_cells cells.size g cells.counter cells.first 0
+selected_cells g (Some asked) cells = cell_of_index g cells asked.index
+
+-- the cells that are asked for, by rising id of the counter, those of one counter by rising index
+abbrev pub selected_counters : Figures → Plane → CounterEntry → List CounterEntry
+selected_counters g plane asked =
+    flat_map (selected_cells g asked.index) (filter (λ cells. is_asked_id asked.counter_id cells.counter) (by_rising (λ cells. cells.counter) (cells_at plane.cells plane.config.info.counters)))
+
+-- the name of an entry as it is answered: table, match and priority
+abbrev pub shown_name : Info → Entry → TableEntry
+shown_name info entry = bare_entry entry.name.table (matches_in (table_of entry.name.table info) entry.name.tests) entry.name.priority
+
+-- the direct counter of an entry that has this slot, as it is answered; an entry without a slot has none
+abbrev pub shown_direct_by : Figures → Info → Entry → Option ℕ → Option DirectCounterEntry
+shown_direct_by g info entry None = None
+shown_direct_by g info entry (Some slot) = Some (record { table_entry = Some (shown_name info entry); content = Some (shown_data (g slot)) })
+
+-- the direct counter of an entry, if its table has one, as it is answered
+abbrev pub shown_direct : Figures → Info → Entry → Option DirectCounterEntry
+shown_direct g info entry = shown_direct_by g info entry entry.slot
+
+-- the entries whose direct counters are asked for: those that their table entry asks for, never a default entry; without one all
+abbrev pub counted_entries : Plane → Option TableEntry → List Entry
+counted_entries plane None = plane.entries
+counted_entries plane (Some asked) = if asked.is_default_action then [] else filter (selects (table_of asked.table_id plane.config.info) asked) plane.entries
+
+-- the direct counters that are asked for, in the order of their entries
+abbrev pub selected_direct : Figures → Plane → DirectCounterEntry → List DirectCounterEntry
+selected_direct g plane asked = filter_map (shown_direct g plane.config.info) (counted_entries plane asked.table_entry)
+
+-- what is answered for an entity that is asked for, where the counters have these figures
+abbrev pub selected : Figures → Plane → Option Entity → List Entity
+selected g plane (Some (entities.TableEntry asked)) = map entities.TableEntry (selected_entries plane asked)
+selected g plane (Some (entities.ActionProfileMember asked)) = map entities.ActionProfileMember (selected_members plane asked)
+selected g plane (Some (entities.ActionProfileGroup asked)) = map entities.ActionProfileGroup (selected_groups plane asked)
+selected g plane (Some (entities.CounterEntry asked)) = map entities.CounterEntry (selected_counters g plane asked)
+selected g plane (Some (entities.DirectCounterEntry asked)) = map entities.DirectCounterEntry (selected_direct g plane asked)
+selected g plane (Some (entities.DigestEntry asked)) = map entities.DigestEntry (selected_digests plane asked)
+selected g plane _ = []
 
 -- Messages of at most 1,024 entities, all but the last full. No entities are one message.
 abbrev pub chunks_in : ℕ → List Entity → List (List Entity)
@@ -249,19 +332,19 @@ abbrev pub response_bytes : List Entity → List ℕ
 response_bytes list = spelling (fields_by read_response_rows (record { entities = list }))
 
 -- the messages that answer a Read of these entities
-abbrev pub read_messages : Plane → List (Option Entity) → List (List ℕ)
-read_messages plane list = map response_bytes (chunks (flat_map (selected plane) list))
+abbrev pub read_messages : Figures → Plane → List (Option Entity) → List (List ℕ)
+read_messages g plane list = map response_bytes (chunks (flat_map (selected g plane) list))
 
 -- the messages that answer a Read, unless a code refuses it
-abbrev pub read_unless : Option Code → Plane → List (Option Entity) → Result (List (List ℕ)) Code
-read_unless (Some code) plane list = Err code
-read_unless None plane list = Ok (read_messages plane list)
+abbrev pub read_unless : Option Code → Figures → Plane → List (Option Entity) → Result (List (List ℕ)) Code
+read_unless (Some code) g plane list = Err code
+read_unless None g plane list = Ok (read_messages g plane list)
 
 -- the answer to a Read under the program, if there is one; without a program it is refused
-abbrev pub read_in : Option Plane → ReadRequest → Result (List (List ℕ)) Code
-read_in None request = Err codes.FailedPrecondition
-read_in (Some plane) request = read_unless (first_of (map (entity_refusal plane.config.info) request.entities)) plane request.entities
+abbrev pub read_in : Option Plane → Figures → ReadRequest → Result (List (List ℕ)) Code
+read_in None g request = Err codes.FailedPrecondition
+read_in (Some plane) g request = read_unless (first_of (map (entity_refusal plane.config.info) request.entities)) g plane request.entities
 
--- the messages that answer a Read, or the code of the first entity asked for that is refused
-unfoldable pub read_result : Control → ReadRequest → Result (List (List ℕ)) Code
-read_result c request = if request.device_id == c.device then read_in (target c) request else Err codes.NotFound
+-- the messages that answer a Read where the counters have these figures, or the code of the first entity asked for that is refused
+unfoldable pub read_result : Control → Figures → ReadRequest → Result (List (List ℕ)) Code
+read_result c g request = if request.device_id == c.device then read_in (target c) g request else Err codes.NotFound

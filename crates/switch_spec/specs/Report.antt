@@ -12,7 +12,7 @@ use Rattle.switch_spec.specs.Answer.{LaneCall, Asks, Leaves}
 use Rattle.plane_spec.specs.Config.{Event}
 use Rattle.plane_spec.specs.Legal.{Legal}
 use Rattle.plane_spec.specs.Planes.{Control, opened, applied, after}
-use Rattle.switch_spec.specs.Counts.{Arrival, Carried, no_figures, counts_in, cells_in}
+use Rattle.switch_spec.specs.Counts.{Figures, Arrival, Carried, no_figures, counted, counts_in, cells_in}
 use Rattle.switch_spec.specs.History.{Made, History, Numbered, published, steps_of, is_refused_for_memory}
 use Rattle.switch_spec.specs.Meaning.{carried}
 use Rattle.switch_spec.specs.ReportText.{is_who, records_of, report_text}
@@ -107,26 +107,35 @@ IsFollowed (Some arrival) made [] = ⊥
 IsFollowed (Some arrival) made (first ∷ records) =
     (first.outcome.who ≡ Controller made.entry.lane) × (first.arrival ≡ arrival) × (first.outcome.steps ≡ made.entry.reply.steps)
 
+-- what the counters have counted behind the packet that a call made enter
+abbrev pub figures_out : Option Arrival → Figures → List Carried → Figures
+figures_out None g records = g
+figures_out (Some arrival) g [] = g
+figures_out (Some arrival) g (first ∷ records) = counted g first
+
 -- the entry is the next call of a lane, and the packet that it makes enter follows
-pub record IsNext (start : Start) (lane : ℕ) (call : LaneCall) (made : Made) (records : List Carried) : Type 0 where
+pub record IsNext (start : Start) (g : Figures) (lane : ℕ) (call : LaneCall) (made : Made) (records : List Carried) : Type 0 where
   pub lane_is : made.entry.lane ≡ lane
   pub call_is : made.call ≡ call
-  -- no counter is read yet
-  pub counted : made.figures ≡ no_figures
+  -- a Read sees what the packets before it have counted
+  pub figures_are : made.figures ≡ g
   pub followed : IsFollowed (packet_out start made) made records
 
--- Journal and records follow the tape: each packet is after just the steps of the calls before it.
-abbrev pub Lockstep : Start → ℕ → List TapeRecord → List Made → List Carried → Type 0
-Lockstep start n [] journal records = (journal ≡ []) × (records ≡ [])
-Lockstep start n (Call lane method message ∷ tape) [] records = ⊥
-Lockstep start n (Call lane method message ∷ tape) (made ∷ journal) records =
-    IsNext start lane (Asks method message) made records × Lockstep start made.entry.reply.steps tape journal (carried_after (packet_out start made) records)
-Lockstep start n (Leave lane ∷ tape) [] records = ⊥
-Lockstep start n (Leave lane ∷ tape) (made ∷ journal) records =
-    IsNext start lane Leaves made records × Lockstep start made.entry.reply.steps tape journal (carried_after (packet_out start made) records)
-Lockstep start n (Packet lane port packet ∷ tape) journal [] = ⊥
-Lockstep start n (Packet lane port packet ∷ tape) journal (carried ∷ records) =
-    (carried.outcome.who ≡ Worker lane) × (carried.arrival ≡ (port, packet)) × (carried.outcome.steps ≡ n) × Lockstep start n tape journal records
+-- Journal and records follow the tape: each packet is after just the steps of the calls before it, and each call sees what
+-- the packets before it have counted.
+abbrev pub Lockstep : Start → ℕ → Figures → List TapeRecord → List Made → List Carried → Type 0
+Lockstep start n g [] journal records = (journal ≡ []) × (records ≡ [])
+Lockstep start n g (Call lane method message ∷ tape) [] records = ⊥
+Lockstep start n g (Call lane method message ∷ tape) (made ∷ journal) records =
+    IsNext start g lane (Asks method message) made records
+    × Lockstep start made.entry.reply.steps (figures_out (packet_out start made) g records) tape journal (carried_after (packet_out start made) records)
+Lockstep start n g (Leave lane ∷ tape) [] records = ⊥
+Lockstep start n g (Leave lane ∷ tape) (made ∷ journal) records =
+    IsNext start g lane Leaves made records
+    × Lockstep start made.entry.reply.steps (figures_out (packet_out start made) g records) tape journal (carried_after (packet_out start made) records)
+Lockstep start n g (Packet lane port packet ∷ tape) journal [] = ⊥
+Lockstep start n g (Packet lane port packet ∷ tape) journal (carried ∷ records) =
+    (carried.outcome.who ≡ Worker lane) × (carried.arrival ≡ (port, packet)) × (carried.outcome.steps ≡ n) × Lockstep start n (counted g carried) tape journal records
 
 -- the control state at the end of a run
 abbrev pub final : Start → List Made → Control
@@ -152,7 +161,7 @@ pub record IsReport (start : Start) (tape : List TapeRecord) (text : List ℕ) :
 -- The text is the report of the run that follows the tape.
 pub record IsLockstepReport (start : Start) (tape : List TapeRecord) (text : List ℕ) : Type 0 where
   pub report : IsReport start tape text
-  pub lockstep : Lockstep start 0 tape report.journal report.records
+  pub lockstep : Lockstep start 0 no_figures tape report.journal report.records
 
 -- Where no call is refused for memory the tape determines the report.
 abbrev pub TapeDeterminesReport : Type 0

@@ -1,4 +1,4 @@
-use Rattle.std.proofs.Common.{rules, refl, ap, ◌∙◌, sym, subst}
+use Rattle.std.proofs.Common.{rules, None, refl, ap, ◌∙◌, sym, subst}
 use Rattle.p4_types.specs.declared.code.Code.TheVariants as codes
 use Rattle.role_arbiter.specs.Arbitration.{cause}
 use Rattle.switch_spec.specs.Answer.{Answer}
@@ -17,7 +17,7 @@ returns-clause-prepared c =
     let device_is = c.device-2.ensures ∙ ap (λ x. x.device) c.enter-lanes.ensures.now in
     let lanes_are = c.as_slice.ensures ∙ c.enter-lanes.ensures.told in
     let told_is = c.in_ok-notices.ensures ∙ ap (λ d. standing_notices d c.roles-2.result.now session.role c.as_slice.result.now) device_is in
-    let p : Prepared = record { code = codes.Ok; messages = c.new.result; notices = c.in_ok-notices.notices; events = c.in_ok-only.field-0 } in
+    let p : Prepared = record { code = codes.Ok; messages = c.new.result; notices = c.in_ok-notices.notices; events = c.in_ok-only.field-0; packet = None } in
     subst (λ (a : Answer). IsPrepared a p) (sym (not_refused s c.args.lane c.args.call update (search rules) (ap (λ roles. cause roles c.args.lane update) (sym c.roles.ensures) ∙ c.in-Ok.ensures.accepted))) (record {
       code = refl;
       messages = search rules;

@@ -1,33 +1,11 @@
-use Rattle.std.proofs.Common.{◌+◌, List, length, ap, ◌∙◌}
-use Rattle.p4_types.specs.declared.records.HitMark.{HitMark}
-use Rattle.p4_types.specs.declared.tape.Who.TheVariants.{Worker}
-use Rattle.plane_spec.specs.Planes.{Control}
-use Rattle.slot_totals.specs.State.{figures}
-use Rattle.switch_spec.specs.Counts.{figures_after}
-use Rattle.switch_spec.specs.Meaning.{carried}
-use Rattle.switch_spec.specs.Play.{next_packet}
-use Rattle.p4switch_run.specs.Session.{State, played_of}
-use Rattle.p4switch_run.proofs.SessionLemmas.{packet_turn}
+use Rattle.p4switch_run.proofs.SessionLemmas.{packet_plays, packet_session, room_for}
 use Rattle.p4switch_run.proofs.session.Session.packet.Goals as goal
 
+pub carry-requires-clause-takes : goal.carry-requires-clause-takes
+carry-requires-clause-takes c = room_for c.args.self.now c.requires.session c.requires.room
+
 pub returns-clause-plays : goal.returns-clause-plays
-returns-clause-plays c =
-    let lane = c.args.lane in
-    let port = c.args.port in
-    let packet = c.args.packet.now in
-    let inside : State = record {
-      core = c.self.inside.control;
-      start = c.self.inside.published.start;
-      events = c.self.inside.published.events.items;
-      journal = c.self.inside.journal;
-      records = c.self.inside.packets;
-      totals = c.self.inside.totals;
-    } in
-    let outcome =
-    c.in_ok-outcome.ensures.record
-    ∙ ap (λ i. carried (Worker lane) (i + 1) c.image.result.now.steps c.image.result.now.now port packet) c.count_of-index.ensures
-    ∙ ap (λ n. carried (Worker lane) (next_packet lane (played_of inside)) n c.image.result.now.now port packet) c.image.ensures.steps
-    ∙ ap (λ (control : Control). carried (Worker lane) (next_packet lane (played_of inside)) inside.core.steps control port packet) c.image.ensures.control
-    ∙ ap (λ (s : State). carried (Worker lane) (next_packet lane (played_of s)) s.core.steps s.core.control port packet) c.self.view_is in
-    packet_turn lane port packet c.args.self.now inside c.in_ok-outcome.outcome c.push.new.self c.add.new.self c.self.view_is outcome c.in_ok-push.ensures.ok
-    (c.in_ok-add.ensures.ok ∙ ap (λ (hits : List HitMark). figures_after (figures inside.totals) hits (length packet)) c.as_slice.ensures)
+returns-clause-plays c = packet_plays c.carry.result c.args.lane c.args.port c.args.packet.now c.args.self.now c.carry.new.self c.carry.ensures
+
+pub returns-clause-session : goal.returns-clause-session
+returns-clause-session c = packet_session c.carry.result c.args.lane c.args.port c.args.packet.now c.args.self.now c.carry.new.self c.requires.session c.carry.ensures

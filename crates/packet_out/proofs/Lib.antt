@@ -1,0 +1,4 @@
+mod Answered
+mod Bytes
+mod Values
+mod Widths
