@@ -1,0 +1,5 @@
+pub mod Places
+pub mod Splits
+pub mod StatusFields
+pub mod Begins
+pub mod Cuts
