@@ -9,7 +9,7 @@ from p4tools.trouble import Trouble
 
 EXAMPLES = os.path.join(os.path.dirname(os.path.abspath(__file__)), "../examples")
 MADE = ["one-entry-one-packet", "batch-or-nothing", "backup-waits", "operator/routes",
-        "laboratory/version-1", "laboratory/version-2"]
+        "laboratory/version-1", "laboratory/version-2", "paths/paths"]
 
 
 def bytes_of(name):

@@ -65,9 +65,11 @@ def told_of(name, side=None):
 
 
 class Reports(unittest.TestCase):
-    def test_operator(self):
-        lines = "\n".join(told.tell(*told_of("operator/routes"))) + "\n"
-        self.assertEqual(lines, bytes_of("operator/routes.txt").decode())
+    def test_walks(self):
+        for name in ("operator/routes", "paths/paths"):
+            with self.subTest(name):
+                lines = "\n".join(told.tell(*told_of(name))) + "\n"
+                self.assertEqual(lines, bytes_of(name + ".txt").decode())
 
     def test_summary(self):
         self.assertEqual(list(told.summary(told_of("operator/routes")[0])), [

@@ -3,3 +3,5 @@ pub mod SettingSteps
 pub mod Cuts
 pub mod Turns
 pub mod Histories
+pub mod UnreadKept
+pub mod WholeFrames

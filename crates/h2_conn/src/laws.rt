@@ -1,6 +1,6 @@
 //! Laws of a connection, each the contract of a function that does nothing.
 ghost use Rattle.h2_conn.specs.Bytes.{AnyCut};
-ghost use Rattle.h2_conn.specs.History.{AnyPieces, WholeFrame};
+ghost use Rattle.h2_conn.specs.History.{AnyPieces, WholeFrame, WholeFrames};
 
 /// Cutting bytes in two changes nothing.
 pub fn any_cut()
@@ -15,4 +15,9 @@ pub fn any_pieces()
 /// The bytes of a whole frame do what the frame does.
 pub fn whole_frame()
     ensures { WholeFrame }
+{}
+
+/// The bytes of whole frames do what the frames do one after another, and what is behind them comes after.
+pub fn whole_frames()
+    ensures { WholeFrames }
 {}

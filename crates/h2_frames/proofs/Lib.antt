@@ -3,3 +3,4 @@ pub mod Numbers
 pub mod FramesBack
 pub mod ReadBack
 pub mod ReadFits
+pub mod Sequences

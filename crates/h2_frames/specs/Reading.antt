@@ -29,6 +29,11 @@ Gives view (Ok x) read = read ≡ Ok (view x)
 Gives view (Err errors.NoMemory) read = Unit {0}
 Gives view (Err (errors.Refused code)) read = read ≡ Err code
 
+-- What a function that takes no memory returned, seen by view, is what reading gives.
+abbrev pub GivesExactly : {X Y : Type 0} → (X → Y) → Result X H2Code → Result Y H2Code → Type 0
+GivesExactly view (Ok x) read = read ≡ Ok (view x)
+GivesExactly view (Err code) read = read ≡ Err code
+
 -- the flag is set
 abbrev pub has : ℕ → ℕ → Bool
 has flags flag = not (bit_and flags flag == 0)

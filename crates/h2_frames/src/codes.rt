@@ -42,6 +42,14 @@ pub enum FrameError {
     Refused(H2Code),
 }
 
+impl From<H2Code> for FrameError {
+    ghost from_gives = { λ code e. e ≡ frame_error.Refused code };
+
+    fn from(code: H2Code) -> FrameError {
+        FrameError::Refused(code)
+    }
+}
+
 impl From<NoMemory> for FrameError {
     ghost from_gives = { λ _ e. e ≡ frame_error.NoMemory };
 

@@ -1,7 +1,7 @@
 //! Reading the payload of a frame by its head.
 ghost use Rattle.std.specs.Prelude.{◌≡◌, ◌+◌, ◌*◌, ◌/◌, ◌%◌, ◌^◌, ◌<◌, ◌≤◌, length, Ok, IfOk};
 ghost use Rattle.std.specs.List.{list_any};
-ghost use Rattle.h2_frames.specs.Reading.{Gives, has, number_at, low_31_at, unpadded, priority_at, setting_at, settings_in, unknown_at, breaks_protocol, breaks_flow_control, checked, data_at, headers_at, priority_frame_at, rst_stream_at, settings_at, push_promise_at, ping_at, goaway_at, window_update_at, continuation_at, frame_at};
+ghost use Rattle.h2_frames.specs.Reading.{Gives, GivesExactly, has, number_at, low_31_at, unpadded, priority_at, setting_at, settings_in, unknown_at, breaks_protocol, breaks_flow_control, checked, data_at, headers_at, priority_frame_at, rst_stream_at, settings_at, push_promise_at, ping_at, goaway_at, window_update_at, continuation_at, frame_at};
 ghost use Rattle.h2_frames.specs.Layout.{payload_of};
 ghost use Rattle.h2_frames.specs.Laws.{NumbersFit};
 
@@ -24,8 +24,6 @@ const PRIORITY: u8 = 0x20;
 const SIZE: FrameError = FrameError::Refused(H2Code::FrameSizeError);
 
 const PROTOCOL: FrameError = FrameError::Refused(H2Code::ProtocolError);
-
-const FLOW_CONTROL: FrameError = FrameError::Refused(H2Code::FlowControlError);
 
 fn has(flags: u8, flag: u8) -> bool
     ensures { result ≡ has flags flag }
@@ -57,23 +55,23 @@ fn copied(alloc: Global, bytes: &[u8]) -> Result<ByteList, FrameError>
 }
 
 #[tactic(auto, unfolding(crate::specs::Reading::unpadded))]
-fn unpadded(bytes: &[u8], flags: u8, fixed: usize) -> Result<&[u8], FrameError>
+fn unpadded(bytes: &[u8], flags: u8, fixed: usize) -> Result<&[u8], H2Code>
     requires { fixed ≤ 8 }
-    ensures exact { Gives (λ x. x.now) result (unpadded fixed flags bytes.now) }
+    ensures exact { GivesExactly (λ x. x.now) result (unpadded fixed flags bytes.now) }
     ensures long { IfOk result (λ x. fixed ≤ length x.now) }
 {
     if !has(flags, PADDED) {
         if bytes.len() < fixed {
-            return Err(SIZE);
+            return Err(H2Code::FrameSizeError);
         }
         return Ok(bytes);
     }
     if bytes.len() < fixed + 1 {
-        return Err(SIZE);
+        return Err(H2Code::FrameSizeError);
     }
     let padding = bytes[0] as usize;
     if bytes.len() < fixed + 1 + padding {
-        return Err(PROTOCOL);
+        return Err(H2Code::ProtocolError);
     }
     let rest = &bytes[1..];
     let (body, _) = rest.split_at(bytes.len() - 1 - padding);
@@ -136,14 +134,14 @@ fn headers(alloc: Global, head: &Head, bytes: &[u8]) -> Result<Frame, FrameError
 }
 
 #[tactic(auto, unfolding(crate::specs::Reading::priority_frame_at))]
-fn priority(head: &Head, bytes: &[u8]) -> Result<Frame, FrameError>
-    ensures { Gives (λ x. x) result (priority_frame_at head.now bytes.now) }
+fn priority(head: &Head, bytes: &[u8]) -> Result<Frame, H2Code>
+    ensures { GivesExactly (λ x. x) result (priority_frame_at head.now bytes.now) }
 {
     if bytes.len() != 5 {
-        return Err(SIZE);
+        return Err(H2Code::FrameSizeError);
     }
     if head.stream == 0 {
-        return Err(PROTOCOL);
+        return Err(H2Code::ProtocolError);
     }
     Ok(Frame::Priority {
         stream: head.stream,
@@ -152,14 +150,14 @@ fn priority(head: &Head, bytes: &[u8]) -> Result<Frame, FrameError>
 }
 
 #[tactic(auto, unfolding(crate::specs::Reading::rst_stream_at))]
-fn rst_stream(head: &Head, bytes: &[u8]) -> Result<Frame, FrameError>
-    ensures { Gives (λ x. x) result (rst_stream_at head.now bytes.now) }
+fn rst_stream(head: &Head, bytes: &[u8]) -> Result<Frame, H2Code>
+    ensures { GivesExactly (λ x. x) result (rst_stream_at head.now bytes.now) }
 {
     if bytes.len() != 4 {
-        return Err(SIZE);
+        return Err(H2Code::FrameSizeError);
     }
     if head.stream == 0 {
-        return Err(PROTOCOL);
+        return Err(H2Code::ProtocolError);
     }
     Ok(Frame::RstStream {
         stream: head.stream,
@@ -218,14 +216,14 @@ fn any_breaks_flow_control(settings: &[Setting]) -> bool
 }
 
 #[tactic(auto, unfolding(crate::specs::Reading::checked))]
-fn checked(settings: &[Setting]) -> Result<(), FrameError>
-    ensures { Gives (λ _. settings.now) result (checked settings.now) }
+fn checked(settings: &[Setting]) -> Result<(), H2Code>
+    ensures { GivesExactly (λ _. settings.now) result (checked settings.now) }
 {
     if any_breaks_protocol(settings) {
-        return Err(PROTOCOL);
+        return Err(H2Code::ProtocolError);
     }
     if any_breaks_flow_control(settings) {
-        return Err(FLOW_CONTROL);
+        return Err(H2Code::FlowControlError);
     }
     Ok(())
 }
@@ -263,14 +261,14 @@ fn push_promise(alloc: Global, head: &Head, bytes: &[u8]) -> Result<Frame, Frame
 }
 
 #[tactic(auto, unfolding(crate::specs::Reading::ping_at))]
-fn ping(head: &Head, bytes: &[u8]) -> Result<Frame, FrameError>
-    ensures { Gives (λ x. x) result (ping_at head.now bytes.now) }
+fn ping(head: &Head, bytes: &[u8]) -> Result<Frame, H2Code>
+    ensures { GivesExactly (λ x. x) result (ping_at head.now bytes.now) }
 {
     if bytes.len() != 8 {
-        return Err(SIZE);
+        return Err(H2Code::FrameSizeError);
     }
     if head.stream != 0 {
-        return Err(PROTOCOL);
+        return Err(H2Code::ProtocolError);
     }
     Ok(Frame::Ping {
         ack: has(head.flags, ACK),
@@ -298,15 +296,15 @@ fn goaway(alloc: Global, head: &Head, bytes: &[u8]) -> Result<Frame, FrameError>
 }
 
 #[tactic(auto, unfolding(crate::specs::Reading::window_update_at))]
-fn window_update(head: &Head, bytes: &[u8]) -> Result<Frame, FrameError>
-    ensures { Gives (λ x. x) result (window_update_at head.now bytes.now) }
+fn window_update(head: &Head, bytes: &[u8]) -> Result<Frame, H2Code>
+    ensures { GivesExactly (λ x. x) result (window_update_at head.now bytes.now) }
 {
     if bytes.len() != 4 {
-        return Err(SIZE);
+        return Err(H2Code::FrameSizeError);
     }
     let window_size_increment = low_31_at(bytes, 0);
     if window_size_increment == 0 {
-        return Err(PROTOCOL);
+        return Err(H2Code::ProtocolError);
     }
     Ok(Frame::WindowUpdate {
         stream: head.stream,
@@ -346,13 +344,13 @@ fn frame(alloc: Global, head: &Head, bytes: &[u8]) -> Result<Frame, FrameError>
     match head.kind {
         0 => data(alloc, head, bytes),
         1 => headers(alloc, head, bytes),
-        2 => priority(head, bytes),
-        3 => rst_stream(head, bytes),
+        2 => Ok(priority(head, bytes)?),
+        3 => Ok(rst_stream(head, bytes)?),
         4 => settings(alloc, head, bytes),
         5 => push_promise(alloc, head, bytes),
-        6 => ping(head, bytes),
+        6 => Ok(ping(head, bytes)?),
         7 => goaway(alloc, head, bytes),
-        8 => window_update(head, bytes),
+        8 => Ok(window_update(head, bytes)?),
         9 => continuation(alloc, head, bytes),
         _ => unknown(alloc, head, bytes),
     }

@@ -27,11 +27,10 @@ pub update_done : (n more : ℕ) (table : Table) (rest : List ℕ) (whole : Resu
     → update_at table rest ≡ Ok (next, after) → updates_in n table rest ≡ whole → updates_in more next after ≡ whole
 update_done n more table rest whole next after en e eu so_far = rw eu at (update_next n more table rest whole en e so_far)
 
-pub update_fails : (view : Bor (List ℕ) → Table × List ℕ) (n : ℕ) (table : Table) (rest : List ℕ) (whole : Result (Table × List ℕ) HpackFault) (error : BlockError) → 0 < n → is_update rest ≡ true
-    → Gives view (Err error) (update_at table rest) → updates_in n table rest ≡ whole → Gives view (Err error) whole
-update_fails view zero table rest whole error some e eu so_far = absurd (omega arith)
-update_fails view (suc more) table rest whole errors.NoMemory some e eu so_far = tt
-update_fails view (suc more) table rest whole (errors.Broken fault) some e eu so_far = sym (rw eu at (update_next (suc more) more table rest whole refl e so_far))
+pub update_fails : (n : ℕ) (table : Table) (rest : List ℕ) (whole : Result (Table × List ℕ) HpackFault) (fault : HpackFault) → 0 < n → is_update rest ≡ true
+    → update_at table rest ≡ Err fault → updates_in n table rest ≡ whole → whole ≡ Err fault
+update_fails zero table rest whole fault some e eu so_far = absurd (omega arith)
+update_fails (suc more) table rest whole fault some e eu so_far = sym (rw eu at (update_next (suc more) more table rest whole refl e so_far))
 
 pub updates_done : (n : ℕ) (table : Table) (rest : List ℕ) (whole : Result (Table × List ℕ) HpackFault) → n ≡ 0 → updates_in n table rest ≡ whole → whole ≡ Ok (table, rest)
 unfolding updates_in

@@ -1,11 +1,9 @@
 -- An integer that is read byte by byte.
-use Rattle.std.proofs.Common.{◌≡◌, ℕ, ◌+◌, ◌-◌, ◌*◌, ◌%◌, ◌^◌, ◌<◌, ◌≤◌, cond, nat_lt, List, [], ◌∷◌, length, Result, Ok, Err, Bor, refl, sym, ap, ◌∙◌, arith, inl, inr}
+use Rattle.std.proofs.Common.{◌≡◌, ℕ, ◌+◌, ◌-◌, ◌*◌, ◌%◌, ◌^◌, ◌<◌, ◌≤◌, cond, nat_lt, List, [], ◌∷◌, length, Result, Ok, Err, refl, sym, ap, ◌∙◌, arith, inl, inr}
 use Rattle.std.proofs.lemmas.Bool.{lt-ltb, le-ltb, cases_lt}
 use Rattle.std.proofs.Math.Nat.{mul-le-mul_right}
 use Rattle.hpack_tables.specs.declared.fault.HpackFault.{HpackFault}
-use Rattle.hpack_tables.specs.declared.fault.BlockError.{BlockError}
-use Rattle.hpack_tables.specs.declared.fault.BlockError.TheVariants as errors
-use Rattle.hpack_tables.specs.Reading.{unless, byte_at, Gives}
+use Rattle.hpack_tables.specs.Reading.{unless, byte_at}
 use Rattle.hpack_tables.specs.Integers.{integer_from}
 
 -- an integer is read so far
@@ -74,8 +72,3 @@ goes_on_past fault value unit byte d rest after whole e d-is small more past par
 
 pub byte_shorter : (rest : List ℕ) (byte : ℕ) (after : List ℕ) → byte_at rest ≡ Ok (byte, after) → length after < length rest
 byte_shorter rest byte after e = omega (arith, ap length (front_is rest byte after e))
-
-pub byte_missing : (view : ℕ × Bor (List ℕ) → ℕ × List ℕ) (fault : HpackFault) (value unit : ℕ) (rest : List ℕ) (whole : Result (ℕ × List ℕ) HpackFault) (error : BlockError)
-    → Gives view (Err error) (byte_at rest) → IsPart fault value unit rest whole → Gives view (Err error) whole
-byte_missing view fault value unit rest whole errors.NoMemory e part = tt
-byte_missing view fault value unit rest whole (errors.Broken end) e part = no_byte fault value unit rest whole end e part

@@ -26,6 +26,11 @@ Gives view (Ok x) read = read ≡ Ok (view x)
 Gives view (Err errors.NoMemory) read = Unit {0}
 Gives view (Err (errors.Broken fault)) read = read ≡ Err fault
 
+-- What a function that takes no memory returned, seen by view, is what reading gives.
+abbrev pub GivesExactly : {X Y : Type 0} → (X → Y) → Result X HpackFault → Result Y HpackFault → Type 0
+GivesExactly view (Ok x) read = read ≡ Ok (view x)
+GivesExactly view (Err fault) read = read ≡ Err fault
+
 -- a byte, and the bytes after it
 abbrev pub byte_at : List ℕ → Result (ℕ × List ℕ) HpackFault
 byte_at [] = Err Truncated

@@ -54,8 +54,8 @@ impl Decoder {
         read
     }
 
-    /// The entries of the dynamic table, the newest first. After a fault they are what was read
-    /// before it.
+    /// The entries of the dynamic table, the newest first. After a fault, or want of memory, they are
+    /// of no use.
     pub fn entries(&self) -> Result<List<Header>, NoMemory>
         ensures { IfOk result (λ entries. entries ≡ self.now.table.entries) }
     {

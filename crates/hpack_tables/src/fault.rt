@@ -28,8 +28,6 @@ pub enum BlockError {
     Broken(HpackFault),
 }
 
-pub(crate) const BAD_INDEX: BlockError = BlockError::Broken(HpackFault::BadIndex);
-
 pub(crate) const BAD_HUFFMAN: BlockError = BlockError::Broken(HpackFault::BadHuffman);
 
 pub(crate) const TABLE_SIZE: BlockError = BlockError::Broken(HpackFault::TableSize);
@@ -37,6 +35,14 @@ pub(crate) const TABLE_SIZE: BlockError = BlockError::Broken(HpackFault::TableSi
 pub(crate) const TRUNCATED: BlockError = BlockError::Broken(HpackFault::Truncated);
 
 pub(crate) const LIST_TOO_LONG: BlockError = BlockError::Broken(HpackFault::ListTooLong);
+
+impl From<HpackFault> for BlockError {
+    ghost from_gives = { λ fault e. e ≡ block_error.Broken fault };
+
+    fn from(fault: HpackFault) -> BlockError {
+        BlockError::Broken(fault)
+    }
+}
 
 impl From<NoMemory> for BlockError {
     ghost from_gives = { λ _ e. e ≡ block_error.NoMemory };

@@ -1,24 +1,24 @@
 //! Integers with a prefix (RFC 7541, section 5.1).
 ghost use Rattle.std.specs.Prelude.{◌≡◌, ◌≤◌};
-ghost use Rattle.hpack_tables.specs.Reading.{Gives, byte_at};
+ghost use Rattle.hpack_tables.specs.Reading.{GivesExactly, byte_at};
 ghost use Rattle.hpack_tables.specs.Integers.{integer_from, integer_at};
 
-use crate::fault::{BlockError, HpackFault, TRUNCATED};
+use crate::fault::HpackFault;
 
 // Where a further bit counts so much, an integer with one is too large.
 const PAST_ALL: u64 = 1 << 32;
 
-fn byte(bytes: &[u8]) -> Result<(u8, &[u8]), BlockError>
-    ensures { Gives (λ x. (x.0, x.1.now)) result (byte_at bytes.now) }
+fn byte(bytes: &[u8]) -> Result<(u8, &[u8]), HpackFault>
+    ensures { GivesExactly (λ x. (x.0, x.1.now)) result (byte_at bytes.now) }
 {
     match bytes {
-        [] => Err(TRUNCATED),
+        [] => Err(HpackFault::Truncated),
         [first, rest @ ..] => Ok((*first, rest)),
     }
 }
 
-fn integer_from(bytes: &[u8], prefix: u32, fault: HpackFault) -> Result<(u32, &[u8]), BlockError>
-    ensures { Gives (λ x. (x.0, x.1.now)) result (integer_from fault prefix 1 bytes.now) }
+fn integer_from(bytes: &[u8], prefix: u32, fault: HpackFault) -> Result<(u32, &[u8]), HpackFault>
+    ensures { GivesExactly (λ x. (x.0, x.1.now)) result (integer_from fault prefix 1 bytes.now) }
 {
     let mut value = u64::from(prefix);
     let mut unit: u64 = 1;
@@ -27,7 +27,7 @@ fn integer_from(bytes: &[u8], prefix: u32, fault: HpackFault) -> Result<(u32, &[
         let (byte, after) = byte(rest)?;
         value += u64::from(byte % 128) * unit;
         if value > u64::from(u32::MAX) {
-            return Err(BlockError::Broken(fault));
+            return Err(fault);
         }
         if byte < 128 {
             return Ok((value as u32, after));
@@ -46,12 +46,12 @@ pub(crate) fn integer(
     bytes: &[u8],
     prefix: u32,
     fault: HpackFault,
-) -> Result<(u32, &[u8]), BlockError>
+) -> Result<(u32, &[u8]), HpackFault>
     requires { prefix ≤ 7 }
-    ensures { Gives (λ x. (x.0, x.1.now)) result (integer_at prefix fault bytes.now) }
+    ensures { GivesExactly (λ x. (x.0, x.1.now)) result (integer_at prefix fault bytes.now) }
 {
     let [byte, rest @ ..] = bytes else {
-        return Err(TRUNCATED);
+        return Err(HpackFault::Truncated);
     };
     let range: u32 = 1 << prefix;
     let value = u32::from(*byte) % range;

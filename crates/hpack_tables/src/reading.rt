@@ -1,6 +1,6 @@
 //! Reading the headers of a block (RFC 7541, sections 3 and 6).
 ghost use Rattle.std.specs.Prelude.{◌≡◌, ◌≤◌, length, Ok};
-ghost use Rattle.hpack_tables.specs.Reading.{Gives};
+ghost use Rattle.hpack_tables.specs.Reading.{Gives, GivesExactly};
 ghost use Rattle.hpack_tables.specs.Blocks.{indexed_at, name_at, literal_at, added, field_at, fields_in, is_update, update_at, updates_in, block_at};
 
 use crate::fault::{BlockError, HpackFault, LIST_TOO_LONG, TABLE_SIZE};
@@ -126,19 +126,19 @@ fn is_update(bytes: &[u8]) -> bool
 }
 
 #[tactic(auto, unfolding(crate::specs::Blocks::update_at))]
-fn update<'a>(table: &mut DynamicTable, bytes: &'a [u8]) -> Result<&'a [u8], BlockError>
-    ensures { Gives (λ x. (table.new, x.now)) result (update_at table.old bytes.now) }
+fn update<'a>(table: &mut DynamicTable, bytes: &'a [u8]) -> Result<&'a [u8], HpackFault>
+    ensures { GivesExactly (λ x. (table.new, x.now)) result (update_at table.old bytes.now) }
 {
     let (size, rest) = integer(bytes, 5, HpackFault::TableSize)?;
     if size > MAX_SIZE {
-        return Err(TABLE_SIZE);
+        return Err(HpackFault::TableSize);
     }
     table.resize(size);
     Ok(rest)
 }
 
-fn updates<'a>(table: &mut DynamicTable, bytes: &'a [u8]) -> Result<&'a [u8], BlockError>
-    ensures { Gives (λ x. (table.new, x.now)) result (updates_in (length bytes.now) table.old bytes.now) }
+fn updates<'a>(table: &mut DynamicTable, bytes: &'a [u8]) -> Result<&'a [u8], HpackFault>
+    ensures { GivesExactly (λ x. (table.new, x.now)) result (updates_in (length bytes.now) table.old bytes.now) }
 {
     let mut rest = bytes;
     for _ in 0..bytes.len() {

@@ -1,10 +1,10 @@
 //! The dynamic table (RFC 7541, section 4).
 ghost use Rattle.std.specs.Prelude.{◌≡◌, ◌≤◌, [], sum_by, Ok, IfOk};
-ghost use Rattle.hpack_tables.specs.Reading.{Gives, found};
+ghost use Rattle.hpack_tables.specs.Reading.{Gives, GivesExactly, found};
 ghost use Rattle.hpack_tables.specs.Tables.{header, entry_size, fitting, inserted, resized, entry_at};
 ghost use Rattle.hpack_tables.specs.declared.fault.HpackFault.TheVariants as faults;
 
-use crate::fault::{BAD_INDEX, BlockError};
+use crate::fault::{BlockError, HpackFault};
 use crate::header::{Header, copy};
 use crate::static_table::{STATIC_ENTRIES, static_entry};
 use list_types::{List, NoMemory};
@@ -96,11 +96,11 @@ impl DynamicTable {
     }
 
     /// The name and the value of an index.
-    pub(crate) fn entry(&self, index: u32) -> Result<(&[u8], &[u8]), BlockError>
-        ensures { Gives (λ x. header x.0.now x.1.now) result (found faults.BadIndex (entry_at self.now index)) }
+    pub(crate) fn entry(&self, index: u32) -> Result<(&[u8], &[u8]), HpackFault>
+        ensures { GivesExactly (λ x. header x.0.now x.1.now) result (found faults.BadIndex (entry_at self.now index)) }
     {
         if index == 0 {
-            return Err(BAD_INDEX);
+            return Err(HpackFault::BadIndex);
         }
         let place = index as usize - 1;
         if place < STATIC_ENTRIES {
@@ -108,7 +108,7 @@ impl DynamicTable {
         }
         match self.entries.get(place - STATIC_ENTRIES) {
             Some(entry) => Ok((entry.name.as_slice(), entry.value.as_slice())),
-            None => Err(BAD_INDEX),
+            None => Err(HpackFault::BadIndex),
         }
     }
 

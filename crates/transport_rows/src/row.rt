@@ -1,5 +1,5 @@
 //! A line of what happens on a connection.
-use crate::text::push_events;
+use crate::text::{push_events, push_number};
 use h2_conn::Conn;
 use hpack_tables::Header;
 use list_types::{ByteList, List, NoMemory};
@@ -30,50 +30,102 @@ impl<T: Drop> From<AllocFailed<T>> for RowError {
     }
 }
 
-fn bytes_of(alloc: Global, word: &str) -> Result<ByteList, RowError> {
-    match hex::decode(alloc, word.as_bytes()) {
-        Ok(bytes) => Ok(ByteList::from_vec(bytes)),
-        Err(_) => Err(RowError::BadRow),
-    }
+// How the bytes of a line come.
+#[derive(Clone, Copy)]
+enum Cut {
+    // As they stand in the line.
+    Nowhere,
+    // One by one.
+    Everywhere,
+    // In one piece more, which ends behind so many bytes of the line.
+    Behind(usize),
+}
+
+// A connection, and what it has given so far.
+#[derive(Drop)]
+struct Run {
+    conn: Conn,
+    text: String,
+    cut: Cut,
+    // How many bytes came.
+    fed: usize,
+    // A breach has ended the connection.
+    ended: bool,
 }
 
 fn number_of(word: &str) -> Result<u32, RowError> {
     word.parse::<u32>().ok().ok_or(RowError::BadRow)
 }
 
-// A piece: its events, and whether a breach has ended the connection.
-fn feed(
-    alloc: Global,
-    conn: &mut Conn,
-    text: &mut String,
-    piece: &[u8],
-    ended: bool,
-) -> Result<bool, RowError> {
-    let (events, code) = conn.feed(alloc, piece)?;
-    push_events(alloc, text, events.as_slice())?;
-    let Some(code) = code else {
-        return Ok(ended);
+// Adds hex, or hex and how many times.
+fn push_part(alloc: Global, bytes: &mut ByteList, part: &str) -> Result<(), RowError> {
+    let (digits, count) = match part.split_once('*') {
+        Some((digits, count)) => (digits, number_of(count)?),
+        None => (part, 1),
     };
-    if !ended {
-        let number = code.number();
-        let told = format!(in alloc; " code={number}")?;
-        text.push_str(told.as_str())?;
+    let Ok(once) = hex::decode(alloc, digits.as_bytes()) else {
+        return Err(RowError::BadRow);
+    };
+    for _ in 0..count {
+        bytes.extend_from_slice(once.as_slice())?;
     }
-    Ok(true)
+    Ok(())
 }
 
-fn feed_each(
-    alloc: Global,
-    conn: &mut Conn,
-    text: &mut String,
-    bytes: &[u8],
-    ended: bool,
-) -> Result<bool, RowError> {
-    let mut ended = ended;
-    for byte in bytes {
-        ended = feed(alloc, conn, text, &[*byte], ended)?;
+fn bytes_of(alloc: Global, word: &str) -> Result<ByteList, RowError> {
+    let mut bytes = ByteList::new(alloc);
+    for part in word.split('+') {
+        push_part(alloc, &mut bytes, part)?;
     }
-    Ok(ended)
+    Ok(bytes)
+}
+
+// A piece: its events, and the code of a breach.
+fn feed_piece(alloc: Global, run: &mut Run, piece: &[u8]) -> Result<Option<u32>, RowError> {
+    let (events, code) = run.conn.feed(alloc, piece)?;
+    push_events(alloc, &mut run.text, events.as_slice())?;
+    match code {
+        Some(code) => Ok(Some(code.number())),
+        None => Ok(None),
+    }
+}
+
+fn feed_each(alloc: Global, run: &mut Run, bytes: &[u8]) -> Result<Option<u32>, RowError> {
+    let mut code = None;
+    for byte in bytes {
+        code = feed_piece(alloc, run, &[*byte])?;
+    }
+    Ok(code)
+}
+
+fn feed_in_two(
+    alloc: Global,
+    run: &mut Run,
+    bytes: &[u8],
+    place: usize,
+) -> Result<Option<u32>, RowError> {
+    let (front, rest) = bytes.split_at(place.saturating_sub(run.fed).min(bytes.len()));
+    let _ = feed_piece(alloc, run, front)?;
+    feed_piece(alloc, run, rest)
+}
+
+// Bytes come; a code is told once, or again where that is asked for.
+fn feed(alloc: Global, run: &mut Run, word: &str, again: bool) -> Result<(), RowError> {
+    let bytes = bytes_of(alloc, word)?;
+    let code = match run.cut {
+        Cut::Nowhere => feed_piece(alloc, run, bytes.as_slice())?,
+        Cut::Everywhere => feed_each(alloc, run, bytes.as_slice())?,
+        Cut::Behind(place) => feed_in_two(alloc, run, bytes.as_slice(), place)?,
+    };
+    run.fed = run.fed.saturating_add(bytes.len());
+    let Some(number) = code else {
+        return Ok(());
+    };
+    if again || !run.ended {
+        push_number(alloc, &mut run.text, " code=", u64::from(number))?;
+    }
+    run.ended = true;
+    Ok(())
 }
 
 fn header_of(alloc: Global, word: &str) -> Result<Header, RowError> {
@@ -117,82 +169,81 @@ fn send_data(alloc: Global, conn: &mut Conn, word: &str) -> Result<(), RowError>
     Ok(())
 }
 
-// One step of a line.
-fn step(
-    alloc: Global,
-    conn: &mut Conn,
-    text: &mut String,
-    word: &str,
-    ended: bool,
-) -> Result<bool, RowError> {
-    let Some((kind, rest)) = word.split_once('=') else {
-        return Err(RowError::BadRow);
-    };
-    match kind {
-        "feed" => {
-            let bytes = bytes_of(alloc, rest)?;
-            feed(alloc, conn, text, bytes.as_slice(), ended)
-        }
-        "each" => {
-            let bytes = bytes_of(alloc, rest)?;
-            feed_each(alloc, conn, text, bytes.as_slice(), ended)
-        }
-        "headers" => {
-            send_headers(alloc, conn, rest)?;
-            Ok(ended)
-        }
-        "data" => {
-            send_data(alloc, conn, rest)?;
-            Ok(ended)
-        }
-        _ => Err(RowError::BadRow),
-    }
-}
-
-// What bytes give and send, where they come in two pieces.
-fn in_two(alloc: Global, bytes: &[u8], cut: usize) -> Result<String, RowError> {
-    let mut conn = Conn::new(alloc)?;
-    let mut text = String::new(alloc);
-    let cut = cut.min(bytes.len());
-    let (front, rest) = bytes.split_at(cut);
-    let ended = feed(alloc, &mut conn, &mut text, front, false)?;
-    feed(alloc, &mut conn, &mut text, rest, ended)?;
-    push_sent(alloc, &mut conn, &mut text)?;
-    Ok(text)
-}
-
-// What bytes give and send, and at how many cuts it is the same.
-fn at_every_cut(alloc: Global, name: &str, word: &str) -> Result<String, RowError> {
-    let bytes = bytes_of(alloc, word)?;
-    let whole = in_two(alloc, bytes.as_slice(), 0)?;
-    let mut same: u64 = 0;
-    for cut in 0..bytes.len() {
-        let other = in_two(alloc, bytes.as_slice(), cut)?;
-        if other.as_str() == whole.as_str() && same < 1_000_000 {
-            same += 1;
-        }
-    }
-    Ok(format!(in alloc; "{name}{whole} cuts={same}")?)
-}
-
-fn push_sent(alloc: Global, conn: &mut Conn, text: &mut String) -> Result<(), RowError> {
-    let output = conn.take_output(alloc);
-    text.push_str(" sent=")?;
+fn tell_sent(alloc: Global, run: &mut Run) -> Result<(), RowError> {
+    let output = run.conn.take_output(alloc);
+    run.text.push_str(" sent=")?;
     let sent = hex::encode(alloc, output.as_slice())?;
-    text.push_str(sent.as_str())?;
+    run.text.push_str(sent.as_str())?;
     Ok(())
 }
 
+fn tell_count(alloc: Global, run: &mut Run) -> Result<(), RowError> {
+    let output = run.conn.take_output(alloc);
+    push_number(alloc, &mut run.text, " took=", output.len() as u64)?;
+    Ok(())
+}
+
+// One step of a line.
+fn step(alloc: Global, run: &mut Run, word: &str) -> Result<(), RowError> {
+    match word.split_once('=') {
+        Some(("feed", rest)) => feed(alloc, run, rest, false),
+        Some(("again", rest)) => feed(alloc, run, rest, true),
+        Some(("headers", rest)) => send_headers(alloc, &mut run.conn, rest),
+        Some(("data", rest)) => send_data(alloc, &mut run.conn, rest),
+        Some(_) => Err(RowError::BadRow),
+        None => match word {
+            "sent" => tell_sent(alloc, run),
+            "took" => tell_count(alloc, run),
+            _ => Err(RowError::BadRow),
+        },
+    }
+}
+
 // What a connection gives and sends, step by step.
-fn in_steps(alloc: Global, name: &str, rest: &str) -> Result<String, RowError> {
-    let mut conn = Conn::new(alloc)?;
+fn run_of(alloc: Global, steps: &str, cut: Cut) -> Result<Run, RowError> {
+    let mut run = Run {
+        conn: Conn::new(alloc)?,
+        text: String::new(alloc),
+        cut,
+        fed: 0,
+        ended: false,
+    };
+    for word in steps.split(' ') {
+        step(alloc, &mut run, word)?;
+    }
+    tell_sent(alloc, &mut run)?;
+    Ok(run)
+}
+
+// It gives and sends the same where its bytes come so.
+fn is_same(alloc: Global, steps: &str, whole: &Run, cut: Cut) -> Result<bool, RowError> {
+    let other = run_of(alloc, steps, cut)?;
+    Ok(other.text.as_str() == whole.text.as_str())
+}
+
+// At how many cuts it is the same.
+fn count_of_cuts(alloc: Global, steps: &str, whole: &Run) -> Result<u64, RowError> {
+    let mut same: u64 = 0;
+    for place in 0..whole.fed {
+        if is_same(alloc, steps, whole, Cut::Behind(place))? {
+            same = same.saturating_add(1);
+        }
+    }
+    Ok(same)
+}
+
+fn told(alloc: Global, name: &str, steps: &str, at_every_cut: bool) -> Result<String, RowError> {
+    let whole = run_of(alloc, steps, Cut::Nowhere)?;
     let mut text = String::new(alloc);
     text.push_str(name)?;
-    let mut ended = false;
-    for word in rest.split(' ') {
-        ended = step(alloc, &mut conn, &mut text, word, ended)?;
+    text.push_str(whole.text.as_str())?;
+    if !is_same(alloc, steps, &whole, Cut::Everywhere)? {
+        text.push_str(" another answer byte by byte")?;
     }
-    push_sent(alloc, &mut conn, &mut text)?;
+    if at_every_cut {
+        let same = count_of_cuts(alloc, steps, &whole)?;
+        push_number(alloc, &mut text, " cuts=", same)?;
+    }
     Ok(text)
 }
 
@@ -201,8 +252,8 @@ pub fn answer(alloc: Global, line: &str) -> Result<String, RowError> {
     let Some((name, rest)) = line.split_once(' ') else {
         return Err(RowError::BadRow);
     };
-    match rest.split_once('=') {
-        Some(("every-cut", bytes)) => at_every_cut(alloc, name, bytes),
-        _ => in_steps(alloc, name, rest),
+    match rest.split_once(' ') {
+        Some(("every-cut", steps)) => told(alloc, name, steps, true),
+        _ => told(alloc, name, rest, false),
     }
 }

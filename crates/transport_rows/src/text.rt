@@ -45,6 +45,17 @@ fn push_event(alloc: Global, text: &mut String, event: &H2Event) -> Result<(), A
     }
 }
 
+/// Adds a number behind its name.
+pub fn push_number(
+    alloc: Global,
+    text: &mut String,
+    name: &str,
+    number: u64,
+) -> Result<(), AllocError> {
+    let told = format!(in alloc; "{name}{number}")?;
+    text.push_str(told.as_str())
+}
+
 /// Adds events to a text, one after another.
 pub fn push_events(alloc: Global, text: &mut String, events: &[H2Event]) -> Result<(), AllocError> {
     for event in events {

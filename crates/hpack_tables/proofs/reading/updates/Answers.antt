@@ -9,7 +9,7 @@ returns-then-not-is_update c = no_update (length c.args.bytes.now - c.loop.count
 pub returns-in_err-rest : goal.returns-in_err-rest
 returns-in_err-rest c =
     let p = err_from_is_err_and c.from_residual.result c.from_residual.ensures.1 in
-    rw (p.1, p.2) (update_fails (λ x. (c.loop.table, x.now)) (length c.args.bytes.now - c.loop.counter) c.loop.table c.loop.rest.now _ _ (omega arith) (search rules) c.in_err-rest.ensures c.loop.invariant)
+    rw (p.1, p.2) (update_fails (length c.args.bytes.now - c.loop.counter) c.loop.table c.loop.rest.now _ _ (omega arith) (search rules) c.in_err-rest.ensures c.loop.invariant)
 
 pub loop-preserved : goal.loop-preserved
 loop-preserved c = update_done (length c.args.bytes.now - c.loop.counter) (length c.args.bytes.now - (c.loop.counter + 1)) c.loop.table c.loop.rest.now _ _ _ (omega arith) (search rules) c.in_ok-rest.ensures c.loop.invariant
