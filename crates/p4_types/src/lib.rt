@@ -15,3 +15,4 @@ pub mod records;
 pub mod shared;
 pub mod table;
 pub mod tape;
+pub mod weights;

@@ -3,7 +3,8 @@ ghost use Rattle.std.specs.Prelude.{◌≡◌, IfOk};
 
 use crate::shared::Shared;
 use crate::table::ActionCall;
-use list_types::{List, NoMemory};
+use crate::weights::{Weighted, WeightedList};
+use list_types::NoMemory;
 
 /// A member of an action profile: an action, by the id under which entries and groups name it.
 #[derive(Drop)]
@@ -32,12 +33,20 @@ pub struct Share {
     pub weight: u32,
 }
 
+impl Weighted for Share {
+    ghost weighs = { λ share. share.weight };
+
+    fn weight(&self) -> u32 {
+        self.weight
+    }
+}
+
 /// A group of an action profile, with its members in the order in which they were given.
 #[derive(Drop)]
 pub struct Group {
     pub profile: u32,
     pub id: u32,
-    pub shares: Shared<List<Share>>,
+    pub shares: Shared<WeightedList<Share>>,
 }
 
 impl Group {

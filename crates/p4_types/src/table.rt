@@ -6,7 +6,8 @@ use crate::keys::{Arguments, Tests};
 use crate::messages::DigestEntry;
 use crate::profiles::ProfileChange;
 use crate::shared::Shared;
-use list_types::{List, NoMemory};
+use crate::weights::{Weighted, WeightedList};
+use list_types::NoMemory;
 
 /// An action with its arguments, in the order of the action's parameters.
 #[derive(Drop)]
@@ -33,6 +34,14 @@ pub struct WeightedCall {
     pub weight: u32,
 }
 
+impl Weighted for WeightedCall {
+    ghost weighs = { λ action. action.weight };
+
+    fn weight(&self) -> u32 {
+        self.weight
+    }
+}
+
 /// What an entry does where it is hit: it runs an action; or it leaves the choice to a member or a group of its table's
 /// action profile, by its id, or to a set of actions of its own under that profile (P4Runtime 1.3.0, "One Shot Action
 /// Selector Programming").
@@ -49,7 +58,7 @@ pub enum EntryAction {
     },
     Set {
         profile: u32,
-        calls: Shared<List<WeightedCall>>,
+        calls: Shared<WeightedList<WeightedCall>>,
     },
 }
 

@@ -30,4 +30,10 @@ pub enum TapeRecord {
     Leave {
         lane: u16,
     },
+    /// A worker waits here until this call, from 1, of this controller's lane, 0 to 31, is made; its packets behind see what the call changed.
+    Meet {
+        lane: u16,
+        controller: u16,
+        call: u32,
+    },
 }

@@ -4,8 +4,8 @@ use Rattle.p4_types.specs.declared.tape.TapeRecord.{TapeRecord}
 use Rattle.sw_edge.proofs.ToldLaws.{Consumes-all}
 use Rattle.sw_edge.specs.Counts.{Rose}
 use Rattle.sw_edge.specs.Told.{Consumes}
-use Rattle.switch_spec.specs.TapeReading.{tape_at}
-use Rattle.switch_spec.proofs.Tapes.{tape_is_read}
+use Rattle.run_spec.specs.TapeReading.{tape_at}
+use Rattle.run_spec.proofs.Tapes.{tape_is_read}
 use Rattle.tape_form.specs.TapeRead.{IsOutcome, EndsSo, EndsWithin, judged, outcome}
 use Rattle.tape_form.specs.declared.limits.TheConstants.{MAX_TAPE, MAX_RECORDS}
 use Rattle.tape_form.specs.declared.fault.Ended.{Ended}

@@ -2,20 +2,22 @@
 use Rattle.std.proofs.Common.{◌≡◌, ℕ, List, Option, ap, ◌∙◌, sym, subst}
 use Rattle.p4_types.specs.declared.events.Start.{Start}
 use Rattle.p4_types.specs.declared.tape.TapeRecord.{TapeRecord}
-use Rattle.switch_spec.specs.Play.{Turn, items_of, played, played_report}
-use Rattle.switch_spec.specs.Report.{IsLockstepReport}
-use Rattle.switch_spec.specs.ReportText.{report_text}
-use Rattle.switch_spec.proofs.Fitting.{played_is_report}
+use Rattle.run_spec.specs.Play.{Turn, items_of, played, played_report}
+use Rattle.run_spec.specs.Report.{IsLockstepReport}
+use Rattle.run_spec.specs.ReportText.{report_text}
+use Rattle.run_spec.specs.Tape.{no_lanes, NameMade}
+use Rattle.run_spec.proofs.Fitting.{played_is_report}
+use Rattle.run_spec.proofs.Standing.{names_of}
 use Rattle.tape_form.specs.TapeRead.{IsWholeTape}
 use Rattle.p4switch_run.specs.Replay.{IsReplayed, IsTextOf}
 
 -- the report of a run of some turns of the records
-text_report : (start : Start) (turns : List Turn) (records : List TapeRecord) (text : List ℕ) → items_of turns ≡ records → text ≡ report_text (played_report (played start turns))
+text_report : (start : Start) (turns : List Turn) (records : List TapeRecord) (text : List ℕ) → NameMade no_lanes records → items_of turns ≡ records → text ≡ report_text (played_report (played start turns))
     → IsLockstepReport start records text
-text_report start turns records text items_are is =
+text_report start turns records text names items_are is =
     let P : List ℕ → Type 0 = λ t. IsLockstepReport start (items_of turns) t in
     let Q : List TapeRecord → Type 0 = λ r. IsLockstepReport start r text in
-    subst Q items_are (subst P (sym is) (played_is_report start turns))
+    subst Q items_are (subst P (sym is) (played_is_report start turns (subst (λ (items : List TapeRecord). NameMade no_lanes items) (sym items_are) names)))
 
 -- the text of a run is the report of the tape
 pub replayed : (start : Start) (old new : Option (List ℕ)) (records all : List TapeRecord) (text : List ℕ) → IsWholeTape old new records → all ≡ records → IsTextOf start all text
@@ -23,5 +25,5 @@ pub replayed : (start : Start) (old new : Option (List ℕ)) (records all : List
 replayed start old new records all text whole all_are h = record {
   records = records;
   whole = whole;
-  report = text_report start h.played.turns records text (h.played.items_are ∙ all_are) (h.text_is ∙ ap (λ p. report_text (played_report p)) h.played.played_is);
+  report = text_report start h.played.turns records text (names_of no_lanes records whole.tape.each) (h.played.items_are ∙ all_are) (h.text_is ∙ ap (λ p. report_text (played_report p)) h.played.played_is);
 }

@@ -6,9 +6,10 @@ use Rattle.p4_types.specs.declared.events.Start.{Start}
 use Rattle.p4_types.specs.declared.journal.Entry.{Entry}
 use Rattle.p4_types.specs.declared.records.Record.{Record}
 use Rattle.p4_types.specs.declared.tape.TapeRecord.{TapeRecord}
-use Rattle.p4_types.specs.declared.tape.TapeRecord.TheVariants.{Call, Packet, Leave}
-use Rattle.switch_spec.specs.Answer.{LaneCall, Asks, Leaves}
-use Rattle.switch_spec.specs.Play.{Played, Turn, Answers, Refuses, Carries, call_item, item_of, begun, next_call, next_answer, play_answer, play_out, play}
+use Rattle.p4_types.specs.declared.tape.TapeRecord.TheVariants.{Call, Packet, Leave, Meet}
+use Rattle.switch_spec.specs.declared.calls.LaneCall.{LaneCall}
+use Rattle.switch_spec.specs.declared.calls.LaneCall.TheVariants.{Asks, Leaves}
+use Rattle.run_spec.specs.Play.{Played, Turn, Answers, Refuses, Carries, Finds, call_item, item_of, begun, next_call, next_answer, play_answer, play_out, play}
 use Rattle.switch_spec.proofs.Answers.{answer_sound}
 use Rattle.p4switch_run.specs.Session.{State, played_of, PlaysCall, Plays, IsPlayed, IsWithin, HasRoom}
 
@@ -34,6 +35,7 @@ within_play n p (Carries lane port packet) h = record {
   calls = omega (arith, h.calls);
   packets = omega (arith, h.packets, length-append {A = Record});
 }
+within_play n p (Finds lane controller call) h = record { steps = omega (arith, h.steps); calls = omega (arith, h.calls); packets = omega (arith, h.packets) }
 
 pub room_within : (n : ℕ) (s : State) → n < 1000000 → IsWithin n (played_of s) → HasRoom s
 room_within n s below h = record {
@@ -56,6 +58,7 @@ one_turn : (item : TapeRecord) (p q : Played) → Plays p item q → OneTurn p i
 one_turn (Call lane method message) p q h = call_turn lane (Asks method message) p q h
 one_turn (Leave lane) p q h = call_turn lane Leaves p q h
 one_turn (Packet lane port packet) p q h = record { turn = Carries lane port packet; item_is = refl; played_is = h }
+one_turn (Meet lane controller call) p q h = record { turn = Finds lane controller call; item_is = refl; played_is = h }
 
 pub within_more : (n : ℕ) (item : TapeRecord) (p q : Played) → Plays p item q → IsWithin n p → IsWithin (n + 1) q
 within_more n item p q h within =
@@ -71,3 +74,8 @@ played_more start items item p q h plays =
       items_are = map-append item_of h.turns (t.turn ∷ []) ∙ ap (λ l. l ++ item_of t.turn ∷ []) h.items_are ∙ ap (λ i. items ++ i ∷ []) t.item_is;
       played_is = t.played_is ∙ ap (λ x. play x t.turn) h.played_is ∙ sym (fold-append play (begun start) h.turns (t.turn ∷ []));
     }
+
+-- a meet leaves the run as it is
+pub meet_plays : (p : Played) (lane controller call : ℕ) → Plays p (Meet lane controller call) p
+unfolding play
+meet_plays p lane controller call = refl

@@ -3,10 +3,10 @@ use Rattle.std.specs.Prelude.{◌≡◌, ℕ, List, Option, Err, ⊤}
 use Rattle.p4_types.specs.declared.tape.TapeRecord.{TapeRecord}
 use Rattle.sw_edge.specs.Counts.{Rose}
 use Rattle.sw_edge.specs.Told.{Keeps, Appends, AppendsPrefix}
-use Rattle.switch_spec.specs.Report.{IsLockstepReport}
+use Rattle.run_spec.specs.Report.{IsLockstepReport}
 use Rattle.p4_types.specs.declared.events.Start.{Start}
-use Rattle.switch_spec.specs.Play.{Played, played_report}
-use Rattle.switch_spec.specs.ReportText.{report_text}
+use Rattle.run_spec.specs.Play.{Played, played_report}
+use Rattle.run_spec.specs.ReportText.{report_text}
 use Rattle.p4switch_run.specs.Session.{IsPlayed}
 use Rattle.tape_form.specs.TapeRead.{IsReadFrom, IsWholeTape, IsBadAt, IsTooLong}
 use Rattle.tape_form.specs.declared.fault.TapeFault.TheVariants as faults

@@ -3,7 +3,7 @@ use Rattle.std.specs.Prelude.{◌≡◌, ℕ, ◌≤◌, List, length, Option, N
 use Rattle.p4_types.specs.declared.events.Start.{Start}
 use Rattle.p4_types.specs.declared.tape.TapeRecord.{TapeRecord}
 use Rattle.sw_edge.specs.declared.answers.Sent.{Sent}
-use Rattle.switch_spec.specs.Tape.{IsTape}
+use Rattle.run_spec.specs.Tape.{IsTape}
 use Rattle.tape_form.specs.TapeRead.{IsBadAt}
 use Rattle.p4switch_run.specs.declared.status.Status.{Status}
 use Rattle.p4switch_run.specs.declared.status.Status.TheVariants as statuses

@@ -10,16 +10,18 @@ use Rattle.p4_types.specs.declared.records.Record.{Record}
 use Rattle.p4_types.specs.declared.tape.TapeRecord.{TapeRecord}
 use Rattle.p4_types.specs.declared.tape.Who.{Who}
 use Rattle.p4_types.specs.declared.tape.Who.TheVariants.{Controller}
-use Rattle.p4_types.specs.declared.tape.TapeRecord.TheVariants.{Call, Packet, Leave}
+use Rattle.p4_types.specs.declared.tape.TapeRecord.TheVariants.{Call, Packet, Leave, Meet}
 use Rattle.ctl_core.specs.Core.{Core, Handled, raised}
 use Rattle.plane_spec.specs.Config.{Event}
 use Rattle.plane_spec.specs.Planes.{opened, applied}
-use Rattle.switch_spec.specs.Answer.{LaneCall, Asks, Leaves, answer_to}
+use Rattle.switch_spec.specs.Answer.{answer_to}
+use Rattle.switch_spec.specs.declared.calls.LaneCall.{LaneCall}
+use Rattle.switch_spec.specs.declared.calls.LaneCall.TheVariants.{Asks, Leaves}
 use Rattle.slot_totals.specs.State.{TotalsState, figures}
 use Rattle.switch_spec.specs.Counts.{figures_after}
 use Rattle.switch_spec.specs.Meaning.{carried}
 use Rattle.switch_spec.specs.History.{step_of}
-use Rattle.switch_spec.specs.Play.{Played, Turn, Answers, Refuses, Carries, next_packet, items_of, play, played}
+use Rattle.run_spec.specs.Play.{Played, Turn, Answers, Refuses, Carries, Finds, next_packet, items_of, play, played}
 use Rattle.p4switch_run.specs.Tallies.{Tallies}
 
 -- what the program keeps of a run: its control and counts, its events, the journal, the records of packets, and what counters have counted
@@ -101,6 +103,7 @@ abbrev pub Plays : Played → TapeRecord → Played → Type 0
 Plays p (Call lane method message) q = PlaysCall p lane (Asks method message) q
 Plays p (Leave lane) q = PlaysCall p lane Leaves q
 Plays p (Packet lane port packet) q = q ≡ play p (Carries lane port packet)
+Plays p (Meet lane controller call) q = q ≡ play p (Finds lane controller call)
 
 -- The run of some turns of these records.
 pub record IsPlayed (start : Start) (items : List TapeRecord) (p : Played) : Type 0 where

@@ -3,7 +3,7 @@ use Rattle.std.specs.Prelude.{◌≡◌, ℕ, ◌<◌, Bool, List, slice_index, 
 use Rattle.p4_types.specs.declared.records.Record.{Record}
 use Rattle.p4_types.specs.declared.tape.Who.{Who}
 use Rattle.p4_types.specs.declared.tape.Who.TheVariants.{Controller, Worker}
-use Rattle.switch_spec.specs.ReportText.{is_who}
+use Rattle.switch_spec.specs.Carrying.{is_who}
 
 -- at each of n places stands how many items the test of that place counts
 abbrev pub Tallies : {X : Type 0} → (ℕ → X → Bool) → ℕ → List ℕ → List X → Type 0

@@ -1,6 +1,6 @@
 //! The packets of a run, each with its number on its lane.
 ghost use Rattle.std.specs.Prelude.{◌≡◌, ◌+◌, ◌-◌, ◌^◌, ◌<◌, ◌++◌, [], ◌∷◌, length, count_by, OnOk, OnErr};
-ghost use Rattle.switch_spec.specs.ReportText.{is_who};
+ghost use Rattle.switch_spec.specs.Carrying.{is_who};
 ghost use Rattle.p4switch_run.specs.Tallies.{IsLane};
 
 use list_types::{List, NoMemory};

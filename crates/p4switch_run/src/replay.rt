@@ -1,7 +1,7 @@
 //! A tape is read, run and reported.
 ghost use Rattle.std.specs.Prelude.{◌≡◌, ◌≤◌, IfOk, length, All};
-ghost use Rattle.switch_spec.specs.Tape.{IsRecord};
-ghost use Rattle.switch_spec.specs.Play.{begun};
+ghost use Rattle.run_spec.specs.Tape.{IsRecord};
+ghost use Rattle.run_spec.specs.Play.{begun};
 ghost use Rattle.p4switch_run.specs.Session.{played_of, IsSession};
 ghost use Rattle.p4switch_run.specs.Replay.{Answers, IsTextOf, streams};
 

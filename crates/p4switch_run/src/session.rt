@@ -2,11 +2,11 @@
 ghost use Rattle.std.specs.Prelude.{◌≡◌, ◌<◌, ◌≤◌, ◌+◌, ◌++◌, [], ◌∷◌, length, map, All, OnOk, IfOk, IfSome};
 ghost use Rattle.p4v1_read.specs.Calls.{call_of};
 ghost use Rattle.switch_spec.specs.Meaning.{carried, record_of, receiver, to_lane};
-ghost use Rattle.switch_spec.specs.Play.{begun, played_report};
-ghost use Rattle.switch_spec.specs.Tape.{IsRecord};
+ghost use Rattle.run_spec.specs.Play.{begun, played_report};
+ghost use Rattle.run_spec.specs.Tape.{IsRecord};
 ghost use Rattle.p4switch_run.specs.Session.{played_of, IsSession, IsHandled, IsEntered, IsCarried, IsOut, IsCompleted, TakesPacket, PlaysCall, Plays, IsPlayed, HasRoom};
 ghost use Rattle.p4switch_run.specs.Tallies.{IsLane};
-ghost use Rattle.switch_spec.specs.Answer.{Asks, Leaves};
+ghost use Rattle.switch_spec.specs.declared.calls.LaneCall.TheVariants.{Asks, Leaves};
 
 use crate::journal::Packets;
 use ctl_core::Control;
@@ -312,6 +312,7 @@ impl Session {
     }
 
     // Takes the next record of the tape.
+    #[tactic(auto, using(crate::proofs::SessionBounds::meet_plays))]
     fn take(&mut self, alloc: Global, item: &TapeRecord) -> Result<(), NoMemory>
         requires item { IsRecord item.now }
         requires room { HasRoom self.old }
@@ -329,6 +330,8 @@ impl Session {
                 self.packet(alloc, *lane, *port, packet.as_slice())
             }
             TapeRecord::Leave { lane } => self.leave(alloc, *lane),
+            // its call was made before, since that stands before it on the tape
+            TapeRecord::Meet { .. } => Ok(()),
         }
     }
 

@@ -10,6 +10,7 @@ use crate::weights::chosen;
 use bm_expr::Store;
 use bm_pipeline::headers::FieldRef;
 use p4_types::table::{ActionCall, EntryAction, WeightedCall};
+use p4_types::weights::WeightedList;
 use plane_state::Plane;
 
 fn member_call(plane: &Plane, profile: u32, id: u32) -> Option<&ActionCall>
@@ -24,12 +25,12 @@ fn group_call(plane: &Plane, profile: u32, id: u32, hash: u32) -> Option<&Action
     ensures { option_map (λ call. call.now) result ≡ spec.group_call plane.now.now hash (group_of profile id plane.now.now.groups) }
 {
     let group = plane.profiles().group(profile, id)?;
-    let share = chosen(group.shares.get().as_slice(), hash)?;
+    let share = chosen(group.shares.get(), hash)?;
     member_call(plane, group.profile, share.member)
 }
 
 // The action that a hash chooses of a one-shot set.
-fn set_call(calls: &[WeightedCall], hash: u32) -> Option<&ActionCall>
+fn set_call(calls: &WeightedList<WeightedCall>, hash: u32) -> Option<&ActionCall>
     ensures { option_map (λ call. call.now) result ≡ spec.weighted_call (spec.chosen (λ action. action.weight) hash calls.now) }
 {
     let action = chosen(calls, hash)?;
@@ -53,8 +54,6 @@ pub(crate) fn entry_call<'a>(
         EntryAction::Group { profile, id } => {
             group_call(plane, *profile, *id, hash_of(selector, store))
         }
-        EntryAction::Set { calls, .. } => {
-            set_call(calls.get().as_slice(), hash_of(selector, store))
-        }
+        EntryAction::Set { calls, .. } => { set_call(calls.get(), hash_of(selector, store)) }
     }
 }

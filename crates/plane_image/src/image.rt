@@ -104,6 +104,14 @@ impl Image {
         self.planes.target()
     }
 
+    /// The slot of the counters that is drawn next: those of all entries and cells, of either plane, are below it.
+    pub fn next_slot(&self) -> u32
+        ensures slot { result ≡ self.now.now.next_slot }
+        ensures limit { result ≤ slot_limit }
+    {
+        self.next_slot
+    }
+
     /// How many steps there were.
     pub fn steps(&self) -> u64
         ensures { result ≡ self.now.steps }

@@ -1,5 +1,5 @@
 //! Why a change is refused for what entries, members and groups name, and for what their profile may have.
-ghost use Rattle.std.specs.Prelude.{◌≡◌, ◌^◌, ◌-◌, ◌==◌, ◌&&◌, not, nat_lt, min, option_copied};
+ghost use Rattle.std.specs.Prelude.{◌≡◌, ◌==◌, ◌&&◌, not, nat_lt, option_copied};
 ghost use Rattle.plane_spec.specs.Objects.{action_profile_of, table_of};
 ghost use Rattle.plane_spec.specs.Planes.{or_cause, if_in_use, if_full, lacks_use, lacks_member, set_exceeds};
 ghost use Rattle.plane_spec.specs.Profiles.{profile_size, is_overweight, weight_of, set_weight, set_size, group_rows};
@@ -11,6 +11,7 @@ use p4_types::code::{Cause, Code, Rule};
 use p4_types::info::ActionProfile;
 use p4_types::profiles::{Group, Share};
 use p4_types::table::{Entry, EntryAction, EntryChange, WeightedCall};
+use p4_types::weights::WeightedList;
 
 /// The table is none of the program's.
 pub(crate) const UNKNOWN: Cause = Cause {
@@ -70,39 +71,20 @@ fn is_over(limit: u32, weight: u64) -> bool
     limit != 0 && u64::from(limit) < weight
 }
 
-// The weights of a group together, at most 2^64 - 1.
-fn weight_of(shares: &[Share]) -> u64
-    ensures { result ≡ min (weight_of shares.now) (2 ^ 64 - 1) }
-{
-    let mut weight: u64 = 0;
-    for share in shares {
-        weight = weight.saturating_add(u64::from(share.weight));
-    }
-    weight
-}
-
-// The weights of a one-shot set together, at most 2^64 - 1.
-fn set_weight(calls: &[WeightedCall]) -> u64
-    ensures { result ≡ min (set_weight calls.now) (2 ^ 64 - 1) }
-{
-    let mut weight: u64 = 0;
-    for call in calls {
-        weight = weight.saturating_add(u64::from(call.weight));
-    }
-    weight
-}
-
 /// Whether the weights of a group are more than its profile allows together.
-pub(crate) fn is_group_overweight(profile: Option<&ActionProfile>, shares: &[Share]) -> bool
+pub(crate) fn is_group_overweight(
+    profile: Option<&ActionProfile>,
+    shares: &WeightedList<Share>,
+) -> bool
     ensures { result ≡ is_overweight (option_copied profile.entry) (weight_of shares.now) }
 {
-    is_over(weight_limit(profile), weight_of(shares))
+    is_over(weight_limit(profile), shares.total())
 }
 
-fn is_set_overweight(profile: Option<&ActionProfile>, calls: &[WeightedCall]) -> bool
+fn is_set_overweight(profile: Option<&ActionProfile>, calls: &WeightedList<WeightedCall>) -> bool
     ensures { result ≡ is_overweight (option_copied profile.entry) (set_weight calls.now) }
 {
-    is_over(weight_limit(profile), set_weight(calls))
+    is_over(weight_limit(profile), calls.total())
 }
 
 // How many actions of a one-shot set of a profile an action is.
@@ -168,7 +150,7 @@ impl Parts {
             return false;
         };
         let profile = self.profile(*id);
-        let calls = calls.get().as_slice();
+        let calls = calls.get();
         let freed = match former {
             Some(entry) => set_size(*id, &entry.action),
             None => 0,

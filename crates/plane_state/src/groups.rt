@@ -19,11 +19,13 @@ impl Parts {
         ensures { result ≡ group_insert_cause room self.now.now.plane group.now }
     {
         let profile = group.profile;
-        let shares = group.shares.get().as_slice();
+        let shares = group.shares.get();
         if self.profiles.group(profile, group.id).is_some() {
             return Some(PRESENT);
         }
-        if self.lacks_member(profile, shares) || self.profiles.set_actions(profile) != 0 {
+        if self.lacks_member(profile, shares.as_slice())
+            || self.profiles.set_actions(profile) != 0
+        {
             return Some(IN_USE);
         }
         if is_group_overweight(self.profile(profile), shares)
@@ -63,8 +65,8 @@ impl Parts {
     fn group_modify_cause(&self, former: &Group, room: Room, group: &Group) -> Option<Cause>
         ensures { result ≡ group_modify_cause (Some former.now) room self.now.now.plane group.now }
     {
-        let shares = group.shares.get().as_slice();
-        if self.lacks_member(group.profile, shares) {
+        let shares = group.shares.get();
+        if self.lacks_member(group.profile, shares.as_slice()) {
             return Some(IN_USE);
         }
         let free = u128::from(room.rows) + u128::from(group_rows(former));

@@ -36,7 +36,8 @@ use Rattle.packet_out.specs.Entering.{packet_out_fields, fills, packet_bytes, un
 use Rattle.packet_out.specs.declared.rule.PacketRule.{PacketRule}
 use Rattle.packet_out.specs.declared.rule.PacketRule.TheVariants as rules
 use Rattle.switch_spec.specs.PacketsOut.{is_primary, entering_in, packet_result}
-use Rattle.switch_spec.specs.Answer.{Answer, LaneCall, plain, write_reply, write_refusal, write_unless, continued, all_or_nothing, batch, origin, has_failed, atomicity_of, is_atomic, unreadable, read_reply, arbitration_unless, packet_reply, unserved_answer, stream_answer, leave_of, answer_to, answer, called, EventsIgnoreFigures}
+use Rattle.switch_spec.specs.Answer.{Answer, plain, write_reply, write_refusal, write_unless, continued, all_or_nothing, batch, origin, has_failed, atomicity_of, is_atomic, unreadable, read_reply, arbitration_unless, packet_reply, unserved_answer, stream_answer, leave_of, answer_to, answer, called, EventsIgnoreFigures}
+use Rattle.switch_spec.specs.declared.calls.LaneCall.{LaneCall}
 use Rattle.switch_spec.specs.Counts.{Figures}
 use Rattle.plane_spec.specs.Config.{Event}
 use Rattle.plane_spec.specs.Legal.{MayChanges, Legal}

@@ -22,7 +22,7 @@ use Rattle.packet_spec.specs.Meaning.{meaning}
 use Rattle.packet_spec.proofs.Hits.{hits_are_there}
 use Rattle.switch_spec.specs.Counts.{Figures, no_figures, Carried, counted, is_of_entry, is_of_cell, packets_counted, bytes_counted, count_by_slot, count_of, count_placed, is_slot, is_of_slot, line_by_slot, line_of, cell_lines_from, cell_lines_of, cells_from, cells_of, counts_in, cells_in as lines_of_cells, count_lines, cell_lines}
 use Rattle.switch_spec.specs.CountLaws.{figures_of, CountersKeepRecords}
-use Rattle.switch_spec.specs.Report.{Fits}
+use Rattle.switch_spec.specs.Carrying.{Fits}
 
 -- ---- The figures of a slot are sums over the records
 

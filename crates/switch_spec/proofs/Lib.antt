@@ -1,15 +1,5 @@
 pub mod Answers
 pub mod CpuPort
 pub mod Counters
-pub mod Determined
-pub mod Fitting
-pub mod Following
-pub mod Playing
-pub mod Readers
 pub mod Settings
 pub mod Sound
-pub mod TapeItems
-pub mod TapeRecords
-pub mod Tapes
-pub mod WorkedRows
-pub mod Standing

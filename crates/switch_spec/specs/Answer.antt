@@ -37,15 +37,12 @@ use Rattle.packet_out.specs.declared.rule.PacketRule.{PacketRule}
 use Rattle.switch_spec.specs.PacketsOut.{packet_result, packet_notice}
 use Rattle.switch_spec.specs.Reading.{read_result}
 use Rattle.switch_spec.specs.Counts.{Figures}
+use Rattle.switch_spec.specs.declared.calls.LaneCall.{LaneCall}
+use Rattle.switch_spec.specs.declared.calls.LaneCall.TheVariants.{Asks, Leaves}
 use Rattle.switch_spec.specs.declared.refusals.SetRefusal.{SetRefusal}
 use Rattle.switch_spec.specs.declared.refusals.SetRefusal.TheVariants.{Breaks, Fails}
 use Rattle.switch_spec.specs.Pipelines.{set_result, get_result, rule_status_bytes}
 use Rattle.switch_spec.specs.Status.{status_bytes, no_error, error_of, aborted_error, write_status, capabilities_bytes}
-
--- a call as its lane brings it: a message with its method, or the end of its stream
-pub data LaneCall : Type 0 where
-  Asks : (method : Method) (message : List ℕ) → LaneCall
-  Leaves : LaneCall
 
 -- what the call is
 abbrev pub called : LaneCall → Call

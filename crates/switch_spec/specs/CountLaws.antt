@@ -6,7 +6,7 @@ use Rattle.plane_spec.specs.Config.{Event}
 use Rattle.plane_spec.specs.Legal.{Legal}
 use Rattle.plane_spec.specs.Planes.{opened, applied}
 use Rattle.switch_spec.specs.Counts.{Figures, no_figures, Carried, counted, counts_in, cells_in, count_lines, cell_lines}
-use Rattle.switch_spec.specs.Report.{Fits}
+use Rattle.switch_spec.specs.Carrying.{Fits}
 
 -- the figures of all records
 abbrev pub figures_of : List Carried → Figures

@@ -9,7 +9,8 @@ use Rattle.p4_types.specs.declared.events.Start.{Start}
 use Rattle.p4_types.specs.declared.journal.Entry.{Entry}
 use Rattle.p4_types.specs.declared.journal.Step.{Step}
 use Rattle.p4_types.specs.declared.journal.StepKind.TheVariants as kinds
-use Rattle.switch_spec.specs.Answer.{Answer, LaneCall, answer}
+use Rattle.switch_spec.specs.Answer.{Answer, answer}
+use Rattle.switch_spec.specs.declared.calls.LaneCall.{LaneCall}
 use Rattle.switch_spec.specs.Counts.{Figures}
 use Rattle.plane_spec.specs.Config.{Event}
 use Rattle.plane_spec.specs.Planes.{Control, opened, applied}

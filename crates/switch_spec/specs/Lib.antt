@@ -1,4 +1,5 @@
 pub mod Answer
+pub mod Carrying
 pub mod CountLaws
 pub mod Counts
 pub mod History
@@ -6,13 +7,5 @@ pub mod Meaning
 pub mod Notices
 pub mod PacketsOut
 pub mod Pipelines
-pub mod Play
 pub mod Reading
-pub mod Report
-pub mod ReportText
-pub mod Rows
 pub mod Status
-pub mod Tape
-pub mod TapeLaws
-pub mod TapeReading
-pub mod Text

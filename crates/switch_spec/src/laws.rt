@@ -1,19 +1,6 @@
 //! Laws about the definitions. Each function's contract is the law; its body does nothing.
 ghost use Rattle.switch_spec.specs.Answer.{EventsIgnoreFigures};
 ghost use Rattle.switch_spec.specs.CountLaws.{CountersKeepRecords};
-ghost use Rattle.switch_spec.specs.Play.{PlayedIsReport};
-ghost use Rattle.switch_spec.specs.Report.{TapeDeterminesReport};
-ghost use Rattle.switch_spec.specs.Rows.{EmptyTape, OneEntryOnePacket, InsertTwice, TableFull, ShortPacket, BackupWaits};
-
-/// One pass over a tape gives a report of it, the one that follows the tape.
-pub fn played_is_report()
-    ensures law { PlayedIsReport }
-{}
-
-/// A tape has one report that follows it, where no call is refused for memory.
-pub fn tape_determines_report()
-    ensures law { TapeDeterminesReport }
-{}
 
 /// What a call does does not depend on what the counters have counted.
 pub fn events_ignore_figures()
@@ -23,14 +10,4 @@ pub fn events_ignore_figures()
 /// What slots have counted is what the records of a run's packets say of the entries and cells that have them.
 pub fn counters_keep_records()
     ensures law { CountersKeepRecords }
-{}
-
-/// Worked runs, with their bytes and texts.
-pub fn worked_runs()
-    ensures empty_tape { EmptyTape }
-    ensures one_entry_one_packet { OneEntryOnePacket }
-    ensures insert_twice { InsertTwice }
-    ensures table_full { TableFull }
-    ensures short_packet { ShortPacket }
-    ensures backup_waits { BackupWaits }
 {}

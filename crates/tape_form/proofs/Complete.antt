@@ -2,10 +2,10 @@
 use Rattle.std.proofs.Common.{◌≡◌, ℕ, zero, suc, ◌≤◌, List, [], ◌∷◌, ◌++◌, length, take, Option, Some, None, Result, Ok, Err, flat_map, refl, sym, ap, subst, ◌∙◌, append_assoc, append-nil, arith, length-append}
 use Rattle.std.proofs.lemmas.List.{take_all}
 use Rattle.p4_types.specs.declared.tape.TapeRecord.{TapeRecord}
-use Rattle.switch_spec.specs.Tape.{record_bytes, magic, tape_bytes, IsTape, BeginsTape}
-use Rattle.switch_spec.specs.TapeLaws.{GoesPast}
-use Rattle.switch_spec.specs.TapeReading.{Flaw, Bad, TooMany, tape_at}
-use Rattle.switch_spec.proofs.Tapes.{tape_is_read, read_is_tape, bad_is_exact, too_many_is_exact, too_many_is_found, no_tape_begins_another}
+use Rattle.run_spec.specs.Tape.{record_bytes, magic, tape_bytes, IsTape, BeginsTape}
+use Rattle.run_spec.specs.TapeLaws.{GoesPast}
+use Rattle.run_spec.specs.TapeReading.{Flaw, Bad, TooMany, tape_at}
+use Rattle.run_spec.proofs.Tapes.{tape_is_read, read_is_tape, bad_is_exact, too_many_is_exact, too_many_is_found, no_tape_begins_another}
 use Rattle.tape_form.specs.declared.limits.TheConstants.{MAX_TAPE, MAX_RECORDS}
 use Rattle.tape_form.specs.declared.fault.TapeFault.{TapeFault}
 use Rattle.tape_form.specs.declared.fault.TapeFault.TheVariants as faults

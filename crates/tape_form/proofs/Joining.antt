@@ -7,8 +7,9 @@ use Rattle.p4_types.specs.declared.records.Record.{Record}
 use Rattle.p4_types.specs.declared.tape.Who.{Who}
 use Rattle.p4_types.specs.declared.tape.Who.TheVariants.{Worker, Controller}
 use Rattle.p4_types.specs.declared.journal.Report.{Report}
-use Rattle.switch_spec.specs.Text.{list_word, line, count_up}
-use Rattle.switch_spec.specs.ReportText.{packet_line, packet_lines, records_of, journal_lines, sent_line, count_line, cell_line, end_line, report_text}
+use Rattle.run_spec.specs.Text.{list_word, line, count_up}
+use Rattle.switch_spec.specs.Carrying.{records_of}
+use Rattle.run_spec.specs.ReportText.{packet_line, packet_lines, journal_lines, sent_line, count_line, cell_line, end_line, report_text}
 use Rattle.tape_form.specs.LaneLines.{lane_lines}
 
 -- pieces joined by a byte: each but the first comes after one

@@ -3,9 +3,9 @@ use Rattle.std.proofs.Common.{◌≡◌, ℕ, zero, suc, ◌-◌, ◌≤◌, ◌
 use Rattle.std.specs.Prelude.{IfOk, IsErrOf}
 use Rattle.p4_types.specs.declared.tape.TapeRecord.{TapeRecord}
 use Rattle.sw_edge.specs.Counts.{Rose}
-use Rattle.switch_spec.specs.Tape.{IsLongestBeginning}
-use Rattle.switch_spec.specs.TapeReading.{Flaw, Bad, TooMany, tape_at}
-use Rattle.switch_spec.proofs.Tapes.{read_is_tape, bad_is_exact, too_many_is_exact}
+use Rattle.run_spec.specs.Tape.{IsLongestBeginning}
+use Rattle.run_spec.specs.TapeReading.{Flaw, Bad, TooMany, tape_at}
+use Rattle.run_spec.proofs.Tapes.{read_is_tape, bad_is_exact, too_many_is_exact}
 use Rattle.tape_form.specs.declared.limits.TheConstants.{MAX_TAPE, MAX_RECORDS}
 use Rattle.tape_form.specs.declared.fault.TapeFault.{TapeFault}
 use Rattle.tape_form.specs.declared.fault.TapeFault.TheVariants as faults

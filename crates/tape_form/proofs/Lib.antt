@@ -1,3 +1,5 @@
+pub mod Agreeing
+pub mod Callers
 pub mod Complete
 pub mod Joining
 pub mod Judging

@@ -1,56 +1,73 @@
 -- Reading records one after the other, as a loop does.
-use Rattle.std.proofs.Common.{◌≡◌, ℕ, suc, ◌-◌, ◌+◌, ◌<◌, List, [], ◌∷◌, ◌++◌, length, get_or, drop, Option, Some, None, Result, Ok, Err, refl, sym, ap, ◌∙◌, append_assoc, append-nil, arith}
+use Rattle.std.proofs.Common.{◌≡◌, ℕ, suc, ◌-◌, ◌+◌, ◌<◌, List, [], ◌∷◌, ◌++◌, length, get_or, drop, replicate, Option, Some, None, Result, Ok, Err, refl, sym, ap, ◌∙◌, append_assoc, append-nil, arith}
 use Rattle.std.proofs.lemmas.List.{nil_from_length, drop_more}
 use Rattle.p4_types.specs.declared.tape.TapeRecord.{TapeRecord}
 use Rattle.wire_fields.specs.Reading.{◌>>=◌}
-use Rattle.switch_spec.specs.TapeReading.{Flaw, or_bad, item_at, nothing_after, with_first, records_at, text_at}
+use Rattle.run_spec.specs.Tape.{Lanes, no_lanes, lanes_after}
+use Rattle.run_spec.specs.TapeReading.{Flaw, or_bad, item_at, nothing_after, with_first, records_at, text_at}
 use Rattle.tape_form.specs.declared.parse.ReadFault.{ReadFault}
 use Rattle.tape_form.specs.declared.parse.ReadFault.TheVariants as faults
+use Rattle.tape_form.specs.Calls.{lanes_of, AgreeOnCalls}
 use Rattle.tape_form.specs.Parsed.{Fails, IsFlaw}
+use Rattle.tape_form.proofs.Agreeing.{records_same}
+use Rattle.tape_form.proofs.Callers.{none_counted}
 
 -- what was read before, and what is still read
 abbrev pub with_front : List TapeRecord → Result (List TapeRecord) Flaw → Result (List TapeRecord) Flaw
 with_front front read = read >>= λ others. Ok (front ++ others)
 
 -- what is read behind an item
-abbrev behind : ℕ → Option TapeRecord × List ℕ → Result (List TapeRecord) Flaw
-behind k x = elim x.0 [ None ↦ nothing_after x.1 | Some first ↦ with_first first (records_at k x.1) ]
+abbrev pub behind : ℕ → Lanes → Option TapeRecord × List ℕ → Result (List TapeRecord) Flaw
+behind k lanes x = elim x.0 [ None ↦ nothing_after x.1 | Some first ↦ with_first first (records_at k (lanes_after lanes first) x.1) ]
 
-by_item : (limit i : ℕ) (rest : List ℕ) → i < limit → records_at (limit - i) rest ≡ (or_bad (item_at rest) >>= behind (limit - (i + 1)))
+by_item : (limit i : ℕ) (lanes : Lanes) (rest : List ℕ) → i < limit → records_at (limit - i) lanes rest ≡ (or_bad (item_at lanes rest) >>= behind (limit - (i + 1)) lanes)
 unfolding records_at
-by_item limit i rest lt = let k : limit - i ≡ suc (limit - (i + 1)) = omega arith in rw k refl
+by_item limit i lanes rest lt = let k : limit - i ≡ suc (limit - (i + 1)) = omega arith in rw k refl
 
 regroup : (front : List TapeRecord) (first : TapeRecord) (read : Result (List TapeRecord) Flaw) → with_front front (with_first first read) ≡ with_front (front ++ first ∷ []) read
 regroup front first (Ok others) = ap (λ (w : List TapeRecord). Ok w) (sym (append_assoc front (first ∷ []) others))
 regroup front first (Err flaw) = refl
 
-pub goes_on : (front : List TapeRecord) (limit i : ℕ) (rest : List ℕ) (first : TapeRecord) (after : List ℕ) (total : Result (List TapeRecord) Flaw) → i < limit → item_at rest ≡ Ok (Some first, after)
-    → with_front front (records_at (limit - i) rest) ≡ total → with_front (front ++ first ∷ []) (records_at (limit - (i + 1)) after) ≡ total
-goes_on front limit i rest first after total lt h so_far =
-    let one : records_at (limit - i) rest ≡ with_first first (records_at (limit - (i + 1)) after) =
-    by_item limit i rest lt ∙ ap (λ (r : Result (Option TapeRecord × List ℕ) ℕ). or_bad r >>= behind (limit - (i + 1))) h in
-    sym (ap (with_front front) one ∙ regroup front first (records_at (limit - (i + 1)) after)) ∙ so_far
+pub goes_on : (front : List TapeRecord) (limit i : ℕ) (lanes next : Lanes) (rest : List ℕ) (first : TapeRecord) (after : List ℕ) (total : Result (List TapeRecord) Flaw) → i < limit → item_at lanes rest ≡ Ok (Some first, after)
+    → AgreeOnCalls (lanes_after lanes first) next → with_front front (records_at (limit - i) lanes rest) ≡ total → with_front (front ++ first ∷ []) (records_at (limit - (i + 1)) next after) ≡ total
+goes_on front limit i lanes next rest first after total lt h agree so_far =
+    let one : records_at (limit - i) lanes rest ≡ with_first first (records_at (limit - (i + 1)) next after) =
+    by_item limit i lanes rest lt ∙ ap (λ (r : Result (Option TapeRecord × List ℕ) ℕ). or_bad r >>= behind (limit - (i + 1)) lanes) h
+    ∙ ap (with_first first) (records_same (limit - (i + 1)) (lanes_after lanes first) next agree after) in
+    sym (ap (with_front front) one ∙ regroup front first (records_at (limit - (i + 1)) next after)) ∙ so_far
 
-pub stops : (e : ReadFault) (front : List TapeRecord) (limit i : ℕ) (rest : List ℕ) (total : Result (List TapeRecord) Flaw) → i < limit → Fails e (item_at rest)
-    → with_front front (records_at (limit - i) rest) ≡ total → IsFlaw e total
-stops faults.NoMemory front limit i rest total lt h so_far = tt
-stops (faults.Bad left) front limit i rest total lt h so_far =
-    sym so_far ∙ ap (with_front front) (by_item limit i rest lt ∙ ap (λ (r : Result (Option TapeRecord × List ℕ) ℕ). or_bad r >>= behind (limit - (i + 1))) h)
-stops (faults.TooMany left) front limit i rest total lt h so_far = absurd h
+pub stops : (e : ReadFault) (front : List TapeRecord) (limit i : ℕ) (lanes : Lanes) (rest : List ℕ) (total : Result (List TapeRecord) Flaw) → i < limit → Fails e (item_at lanes rest)
+    → with_front front (records_at (limit - i) lanes rest) ≡ total → IsFlaw e total
+stops faults.NoMemory front limit i lanes rest total lt h so_far = tt
+stops (faults.Bad left) front limit i lanes rest total lt h so_far =
+    sym so_far ∙ ap (with_front front) (by_item limit i lanes rest lt ∙ ap (λ (r : Result (Option TapeRecord × List ℕ) ℕ). or_bad r >>= behind (limit - (i + 1)) lanes) h)
+stops (faults.TooMany left) front limit i lanes rest total lt h so_far = absurd h
 
-at_end : (front : List TapeRecord) (limit i : ℕ) (rest after : List ℕ) → i < limit → item_at rest ≡ Ok (None, after) → with_front front (records_at (limit - i) rest) ≡ with_front front (nothing_after after)
-at_end front limit i rest after lt h = ap (with_front front) (by_item limit i rest lt ∙ ap (λ (r : Result (Option TapeRecord × List ℕ) ℕ). or_bad r >>= behind (limit - (i + 1))) h)
+at_end : (front : List TapeRecord) (limit i : ℕ) (lanes : Lanes) (rest after : List ℕ) → i < limit → item_at lanes rest ≡ Ok (None, after) → with_front front (records_at (limit - i) lanes rest) ≡ with_front front (nothing_after after)
+at_end front limit i lanes rest after lt h = ap (with_front front) (by_item limit i lanes rest lt ∙ ap (λ (r : Result (Option TapeRecord × List ℕ) ℕ). or_bad r >>= behind (limit - (i + 1)) lanes) h)
 
-pub ends_badly : (e : ReadFault) (front : List TapeRecord) (limit i : ℕ) (rest after : List ℕ) (total : Result (List TapeRecord) Flaw) → i < limit → item_at rest ≡ Ok (None, after) → IsFlaw e (nothing_after after)
-    → with_front front (records_at (limit - i) rest) ≡ total → IsFlaw e total
-ends_badly faults.NoMemory front limit i rest after total lt h bad so_far = tt
-ends_badly (faults.Bad left) front limit i rest after total lt h bad so_far = sym so_far ∙ at_end front limit i rest after lt h ∙ ap (with_front front) bad
-ends_badly (faults.TooMany left) front limit i rest after total lt h bad so_far = sym so_far ∙ at_end front limit i rest after lt h ∙ ap (with_front front) bad
+pub ends_badly : (e : ReadFault) (front : List TapeRecord) (limit i : ℕ) (lanes : Lanes) (rest after : List ℕ) (total : Result (List TapeRecord) Flaw) → i < limit → item_at lanes rest ≡ Ok (None, after) → IsFlaw e (nothing_after after)
+    → with_front front (records_at (limit - i) lanes rest) ≡ total → IsFlaw e total
+ends_badly faults.NoMemory front limit i lanes rest after total lt h bad so_far = tt
+ends_badly (faults.Bad left) front limit i lanes rest after total lt h bad so_far = sym so_far ∙ at_end front limit i lanes rest after lt h ∙ ap (with_front front) bad
+ends_badly (faults.TooMany left) front limit i lanes rest after total lt h bad so_far = sym so_far ∙ at_end front limit i lanes rest after lt h ∙ ap (with_front front) bad
 
-pub ends : (front : List TapeRecord) (limit i : ℕ) (rest after : List ℕ) (total : Result (List TapeRecord) Flaw) → i < limit → item_at rest ≡ Ok (None, after) → nothing_after after ≡ Ok []
-    → with_front front (records_at (limit - i) rest) ≡ total → total ≡ Ok front
-ends front limit i rest after total lt h good so_far =
-    sym so_far ∙ at_end front limit i rest after lt h ∙ ap (with_front front) good ∙ ap (λ (w : List TapeRecord). Ok w) (append-nil front)
+pub ends : (front : List TapeRecord) (limit i : ℕ) (lanes : Lanes) (rest after : List ℕ) (total : Result (List TapeRecord) Flaw) → i < limit → item_at lanes rest ≡ Ok (None, after) → nothing_after after ≡ Ok []
+    → with_front front (records_at (limit - i) lanes rest) ≡ total → total ≡ Ok front
+ends front limit i lanes rest after total lt h good so_far =
+    sym so_far ∙ at_end front limit i lanes rest after lt h ∙ ap (with_front front) good ∙ ap (λ (w : List TapeRecord). Ok w) (append-nil front)
+
+with_none : (read : Result (List TapeRecord) Flaw) → with_front [] read ≡ read
+with_none (Ok records) = refl
+with_none (Err flaw) = refl
+
+-- before the first record
+pub begins : (limit : ℕ) (counts bytes : List ℕ) → counts ≡ replicate 32 0 → with_front [] (records_at (limit - 0) (lanes_of counts) bytes) ≡ records_at limit no_lanes bytes
+begins limit counts bytes is =
+    with_none (records_at (limit - 0) (lanes_of counts) bytes)
+    ∙ ap (λ (n : List ℕ). records_at (limit - 0) (lanes_of n) bytes) is
+    ∙ records_same (limit - 0) (lanes_of (replicate 32 0)) no_lanes none_counted bytes
+    ∙ (let whole : limit - 0 ≡ limit = omega arith in ap (λ (n : ℕ). records_at n no_lanes bytes) whole)
 
 -- text is wanted where nothing is left
 pub text_missing : (text rest : List ℕ) (i : ℕ) (total : Result (List ℕ) ℕ) → i < length text → length rest < 1 → text_at (drop i text) rest ≡ total → total ≡ Err 0

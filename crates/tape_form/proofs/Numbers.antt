@@ -2,7 +2,7 @@
 use Rattle.std.proofs.Common.{◌≡◌, ℕ, zero, suc, ◌+◌, ◌-◌, ◌*◌, ◌^◌, ◌<◌, ◌≤◌, min, Bool, true, false, cond, ltb, ◌||◌, List, [], ◌∷◌, length, get_or, take, drop, Result, Ok, Err, refl, sym, ap, subst, ◌∙◌, ◌⊎◌, arith, inl, inr, take_all, mul-le-mul}
 use Rattle.std.proofs.lemmas.Bool.{lt-ltb, le-ltb, or_left, or_right, or_from}
 use Rattle.wire_fields.specs.Reading.{◌>>=◌}
-use Rattle.switch_spec.specs.TapeReading.{number_at}
+use Rattle.run_spec.specs.TapeReading.{number_at}
 use Rattle.tape_form.specs.declared.parse.ReadFault.{ReadFault}
 use Rattle.tape_form.specs.declared.parse.ReadFault.TheVariants as faults
 use Rattle.tape_form.specs.Parsed.{Fails}

@@ -3,8 +3,9 @@ use Rattle.std.specs.Prelude.{ℕ, List, map}
 use Rattle.std.specs.List.{flat_map}
 use Rattle.p4_types.specs.declared.records.Record.{Record}
 use Rattle.p4_types.specs.declared.tape.Who.{Who}
-use Rattle.switch_spec.specs.Text.{count_up}
-use Rattle.switch_spec.specs.ReportText.{packet_line, records_of}
+use Rattle.run_spec.specs.Text.{count_up}
+use Rattle.switch_spec.specs.Carrying.{records_of}
+use Rattle.run_spec.specs.ReportText.{packet_line}
 
 -- lane by lane, of so many lanes of a kind from this one on
 unfoldable pub lane_lines : (ℕ → Who) → ℕ → ℕ → List Record → List ℕ

@@ -1,3 +1,4 @@
+pub mod Calls
 pub mod LaneLines
 pub mod Parsed
 pub mod TapeRead

@@ -1,6 +1,6 @@
 -- What the readers of bytes in memory answer, against reading on lists.
 use Rattle.std.specs.Prelude.{◌≡◌, ℕ, Result, Ok, Err, ⊤}
-use Rattle.switch_spec.specs.TapeReading.{Flaw, Bad, TooMany}
+use Rattle.run_spec.specs.TapeReading.{Flaw, Bad, TooMany}
 use Rattle.tape_form.specs.declared.parse.ReadFault.{ReadFault}
 use Rattle.tape_form.specs.declared.parse.ReadFault.TheVariants as faults
 

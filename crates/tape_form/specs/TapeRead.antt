@@ -3,9 +3,9 @@ use Rattle.std.specs.Prelude.{◌≡◌, ℕ, zero, suc, ◌-◌, ◌<◌, ◌�
 use Rattle.p4_types.specs.declared.tape.TapeRecord.{TapeRecord}
 use Rattle.sw_edge.specs.Counts.{Rose}
 use Rattle.sw_edge.specs.Told.{Consumes, IsAtEnd}
-use Rattle.switch_spec.specs.Tape.{no_lanes, AreRecords, tape_bytes, IsTape, IsLongestBeginning}
-use Rattle.switch_spec.specs.TapeLaws.{IsNoTape, GoesPast}
-use Rattle.switch_spec.specs.TapeReading.{Flaw, Bad, TooMany, tape_at}
+use Rattle.run_spec.specs.Tape.{no_lanes, AreRecords, tape_bytes, IsTape, IsLongestBeginning}
+use Rattle.run_spec.specs.TapeLaws.{IsNoTape, GoesPast}
+use Rattle.run_spec.specs.TapeReading.{Flaw, Bad, TooMany, tape_at}
 use Rattle.tape_form.specs.declared.limits.TheConstants.{MAX_TAPE, MAX_RECORDS}
 use Rattle.tape_form.specs.declared.fault.TapeFault.{TapeFault}
 use Rattle.tape_form.specs.declared.fault.TapeFault.TheVariants as faults

@@ -1,6 +1,8 @@
 // A tape's records from its bytes.
-ghost use Rattle.std.specs.Prelude.{◌≡◌, ◌<◌, ◌≤◌, ◌^◌, ℕ, IfOk, []};
-ghost use Rattle.switch_spec.specs.TapeReading.{method_of, number_at, bytes_at, call_at, packet_at, leave_at, end_at, item_at, text_at, nothing_after, records_at, tape_at};
+ghost use Rattle.std.specs.Prelude.{◌≡◌, ◌+◌, ◌<◌, ◌≤◌, ◌^◌, ℕ, min, set, slice_index, IfOk, []};
+ghost use Rattle.run_spec.specs.Tape.{no_lanes, lanes_after, IsRecord};
+ghost use Rattle.run_spec.specs.TapeReading.{method_of, number_at, bytes_at, call_at, packet_at, leave_at, some_called, called_at, last_call, meet_at, end_at, item_at, text_at, nothing_after, records_at, tape_at};
+ghost use Rattle.tape_form.specs.Calls.{lanes_of, AgreeOnCalls};
 ghost use Rattle.tape_form.specs.Parsed.{Gives, GivesAll};
 ghost use Rattle.tape_form.specs.declared.parse.ReadFault.TheVariants as faults;
 
@@ -65,7 +67,7 @@ fn number_at(count: u32, low: u32, high: u32, bytes: &[u8]) -> Result<(u32, &[u8
 }
 
 /// So many bytes, and the bytes after them.
-#[tactic(auto, unfolding(switch_spec::specs::TapeReading::bytes_at))]
+#[tactic(auto, unfolding(run_spec::specs::TapeReading::bytes_at))]
 fn bytes_at(alloc: Global, count: usize, bytes: &[u8]) -> Result<(ByteList, &[u8]), ReadFault>
     ensures { Gives (λ x. (x.0, x.1.now)) result (bytes_at count bytes.now) }
 {
@@ -91,7 +93,7 @@ fn method_of(number: u8) -> Method
 }
 
 /// What stands behind the kind of a call.
-#[tactic(auto, unfolding(switch_spec::specs::TapeReading::call_at))]
+#[tactic(auto, unfolding(run_spec::specs::TapeReading::call_at))]
 fn call_at(alloc: Global, bytes: &[u8]) -> Result<(TapeRecord, &[u8]), ReadFault>
     ensures { Gives (λ x. (x.0, x.1.now)) result (call_at bytes.now) }
 {
@@ -108,7 +110,7 @@ fn call_at(alloc: Global, bytes: &[u8]) -> Result<(TapeRecord, &[u8]), ReadFault
 }
 
 /// What stands behind the kind of a packet.
-#[tactic(auto, unfolding(switch_spec::specs::TapeReading::packet_at))]
+#[tactic(auto, unfolding(run_spec::specs::TapeReading::packet_at))]
 fn packet_at(alloc: Global, bytes: &[u8]) -> Result<(TapeRecord, &[u8]), ReadFault>
     ensures { Gives (λ x. (x.0, x.1.now)) result (packet_at bytes.now) }
 {
@@ -125,7 +127,7 @@ fn packet_at(alloc: Global, bytes: &[u8]) -> Result<(TapeRecord, &[u8]), ReadFau
 }
 
 /// What stands behind the kind of a stream's end.
-#[tactic(auto, unfolding(switch_spec::specs::TapeReading::leave_at))]
+#[tactic(auto, unfolding(run_spec::specs::TapeReading::leave_at))]
 fn leave_at(bytes: &[u8]) -> Result<(TapeRecord, &[u8]), ReadFault>
     ensures { Gives (λ x. (x.0, x.1.now)) result (leave_at bytes.now) }
 {
@@ -134,8 +136,62 @@ fn leave_at(bytes: &[u8]) -> Result<(TapeRecord, &[u8]), ReadFault>
     Ok((TapeRecord::Leave { lane: lane as u16 }, rest))
 }
 
+/// Whether one of the controllers' lanes has made a call.
+fn some_called(calls: &[u32; 32]) -> bool
+    ensures { result ≡ some_called 32 (lanes_of calls.now) }
+{
+    for count in calls {
+        if *count > 0 {
+            return true;
+        }
+    }
+    false
+}
+
+/// In one byte a controller's lane that has made a call, and the bytes after it.
+#[tactic(auto, unfolding(run_spec::specs::TapeReading::called_at))]
+fn called_at<'a>(calls: &[u32; 32], bytes: &'a [u8]) -> Result<(u16, &'a [u8]), ReadFault>
+    ensures gives { Gives (λ x. (x.0, x.1.now)) result (called_at (lanes_of calls.now) bytes.now) }
+    ensures within { IfOk result (λ x. (x.0 < 32) × (1 ≤ slice_index calls.now x.0)) }
+{
+    let [first, rest @ ..] = bytes else {
+        return Err(ReadFault::Bad(0));
+    };
+    let controller = u16::from(*first);
+    if controller < 32 && calls[controller as usize] > 0 {
+        return Ok((controller, rest));
+    }
+    Err(ReadFault::Bad(bytes.len()))
+}
+
+/// The number of the last call that a controller's lane has made.
+fn last_call(calls: &[u32; 32], controller: u16) -> u32
+    requires { controller < 32 }
+    ensures { result ≡ last_call (lanes_of calls.now) controller }
+{
+    calls[controller as usize]
+}
+
+/// What stands behind the kind of a meet.
+#[tactic(auto, unfolding(run_spec::specs::TapeReading::meet_at))]
+fn meet_at<'a>(calls: &[u32; 32], bytes: &'a [u8]) -> Result<(TapeRecord, &'a [u8]), ReadFault>
+    ensures { Gives (λ x. (x.0, x.1.now)) result (meet_at (lanes_of calls.now) bytes.now) }
+{
+    let (lane, rest) = number_at(2, 0, 15, bytes)?;
+    let (_, rest) = number_at(4, 6, 6, rest)?;
+    let (_, rest) = number_at(1, 0, 0, rest)?;
+    let (controller, rest) = called_at(calls, rest)?;
+    let (call, rest) = number_at(4, 1, last_call(calls, controller), rest)?;
+    let record = TapeRecord::Meet {
+        lane: lane as u16,
+        controller,
+        call,
+    };
+    Ok((record, rest))
+}
+
 /// What stands behind the kind of the end record.
-#[tactic(auto, unfolding(switch_spec::specs::TapeReading::end_at))]
+#[tactic(auto, unfolding(run_spec::specs::TapeReading::end_at))]
 fn end_at(bytes: &[u8]) -> Result<&[u8], ReadFault>
     ensures { Gives (λ x. x.now) result (end_at bytes.now) }
 {
@@ -144,10 +200,14 @@ fn end_at(bytes: &[u8]) -> Result<&[u8], ReadFault>
     Ok(rest)
 }
 
-/// A record, or none for the end record, and the bytes after it.
-#[tactic(auto, unfolding(switch_spec::specs::TapeReading::item_at))]
-fn item_at(alloc: Global, bytes: &[u8]) -> Result<(Option<TapeRecord>, &[u8]), ReadFault>
-    ensures { Gives (λ x. (x.0, x.1.now)) result (item_at bytes.now) }
+/// A record, or none for the end record, and the bytes after it, where the lanes have made so many calls.
+#[tactic(auto, unfolding(run_spec::specs::TapeReading::item_at))]
+fn item_at<'a>(
+    alloc: Global,
+    calls: &[u32; 32],
+    bytes: &'a [u8],
+) -> Result<(Option<TapeRecord>, &'a [u8]), ReadFault>
+    ensures { Gives (λ x. (x.0, x.1.now)) result (item_at (lanes_of calls.now) bytes.now) }
 {
     match bytes {
         [] => Err(ReadFault::Bad(0)),
@@ -167,12 +227,40 @@ fn item_at(alloc: Global, bytes: &[u8]) -> Result<(Option<TapeRecord>, &[u8]), R
             let (leave, rest) = leave_at(rest)?;
             Ok((Some(leave), rest))
         }
+        [5, rest @ ..] => {
+            if !some_called(calls) {
+                return Err(ReadFault::Bad(bytes.len()));
+            }
+            let (meet, rest) = meet_at(calls, rest)?;
+            Ok((Some(meet), rest))
+        }
         [_, ..] => Err(ReadFault::Bad(bytes.len())),
     }
 }
 
+/// Counts one more call of a lane.
+fn raise(calls: &mut [u32; 32], lane: u16)
+    requires { lane < 32 }
+    ensures { calls.new ≡ set calls.old lane (min (slice_index calls.old lane + 1) 4294967295) }
+{
+    calls[lane as usize] = calls[lane as usize].saturating_add(1);
+}
+
+/// Counts the call that a record is, if it is one.
+fn count_call(calls: &mut [u32; 32], record: &TapeRecord)
+    requires { IsRecord record.now }
+    ensures { AgreeOnCalls (lanes_after (lanes_of calls.old) record.now) (lanes_of calls.new) }
+{
+    match record {
+        TapeRecord::Call { lane, .. } => raise(calls, *lane),
+        TapeRecord::Leave { lane } => raise(calls, *lane),
+        TapeRecord::Packet { .. } => {}
+        TapeRecord::Meet { .. } => {}
+    }
+}
+
 /// The bytes behind this text.
-#[tactic(auto, unfolding(switch_spec::specs::TapeReading::text_at))]
+#[tactic(auto, unfolding(run_spec::specs::TapeReading::text_at))]
 fn text_at<'a>(text: &[u8], bytes: &'a [u8]) -> Result<&'a [u8], ReadFault>
     ensures { Gives (λ x. x.now) result (text_at text.now bytes.now) }
 {
@@ -193,14 +281,18 @@ fn text_at<'a>(text: &[u8], bytes: &'a [u8]) -> Result<&'a [u8], ReadFault>
 
 /// The records, up to the end record, behind which nothing stands.
 fn records_at(alloc: Global, limit: u32, bytes: &[u8]) -> Result<Vec<TapeRecord>, ReadFault>
-    ensures { GivesAll (λ x. x.items) result (records_at limit bytes.now) }
+    ensures { GivesAll (λ x. x.items) result (records_at limit no_lanes bytes.now) }
 {
     let mut records = Vec::new(alloc);
+    let mut calls = [0; 32];
     let mut rest = bytes;
     for _ in 0..limit {
-        let (item, after) = item_at(alloc, rest)?;
+        let (item, after) = item_at(alloc, &calls, rest)?;
         match item {
-            Some(record) => records.push(record)?,
+            Some(record) => {
+                count_call(&mut calls, &record);
+                records.push(record)?;
+            }
             None => {
                 nothing_in(after)?;
                 return Ok(records);
@@ -208,7 +300,7 @@ fn records_at(alloc: Global, limit: u32, bytes: &[u8]) -> Result<Vec<TapeRecord>
         }
         rest = after;
     }
-    end_alone(alloc, rest)?;
+    end_alone(alloc, &calls, rest)?;
     Ok(records)
 }
 
@@ -223,19 +315,19 @@ fn nothing_in(rest: &[u8]) -> Result<(), ReadFault>
 }
 
 /// The end record alone is left: behind the last record that may stand on a tape.
-#[tactic(auto, unfolding(switch_spec::specs::TapeReading::records_at))]
-fn end_alone(alloc: Global, rest: &[u8]) -> Result<(), ReadFault>
-    ensures { GivesAll (λ _. []) result (records_at 0 rest.now) }
+#[tactic(auto, unfolding(run_spec::specs::TapeReading::records_at))]
+fn end_alone(alloc: Global, calls: &[u32; 32], rest: &[u8]) -> Result<(), ReadFault>
+    ensures { GivesAll (λ _. []) result (records_at 0 (lanes_of calls.now) rest.now) }
 {
     if let [1..=5, ..] = rest {
         return Err(ReadFault::TooMany(rest.len()));
     }
-    let (_, after) = item_at(alloc, rest)?;
+    let (_, after) = item_at(alloc, calls, rest)?;
     nothing_in(after)
 }
 
 /// The records of the tape that the bytes are.
-#[tactic(auto, unfolding(switch_spec::specs::TapeReading::tape_at))]
+#[tactic(auto, unfolding(run_spec::specs::TapeReading::tape_at))]
 pub(crate) fn tape_at(alloc: Global, limit: u32, bytes: &[u8]) -> Result<Vec<TapeRecord>, ReadFault>
     ensures { GivesAll (λ x. x.items) result (tape_at limit bytes.now) }
 {

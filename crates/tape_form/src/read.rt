@@ -1,6 +1,6 @@
 // A tape from a source.
 ghost use Rattle.std.specs.Prelude.{◌≡◌, ◌≤◌, ℕ, List, IfOk, IfErr, IsErrOf, All, length};
-ghost use Rattle.switch_spec.specs.Tape.{IsRecord, tape_bytes};
+ghost use Rattle.run_spec.specs.Tape.{IsRecord, tape_bytes};
 ghost use Rattle.sw_edge.specs.Counts.{HasCause};
 ghost use Rattle.tape_form.specs.TapeRead.{InLimits, UnlessNoMemory, outcome, when_whole, when_short, when_bad, EndsWithin, EndsSo, IsTakenFrom, IsReadFrom, IsWholeTape, IsBadAt, IsTooLong, IsAnswerToTape};
 
@@ -48,7 +48,7 @@ impl Tape {
     }
 
     /// The records in their order, the end record left out.
-    #[tactic(auto, using(switch_spec::proofs::Standing::all_of))]
+    #[tactic(auto, using(run_spec::proofs::Standing::all_of))]
     pub fn records(&self) -> &[TapeRecord]
         ensures value { result.now ≡ self.now }
         ensures limits { InLimits self.now }

@@ -1,6 +1,6 @@
 // The text of a report.
 ghost use Rattle.std.specs.Prelude.{◌≡◌, ◌++◌, IfOk, OnOk, string_bytes};
-ghost use Rattle.switch_spec.specs.ReportText.{report_text};
+ghost use Rattle.run_spec.specs.ReportText.{report_text};
 
 mod journal;
 mod lines;

@@ -6,13 +6,14 @@ ghost use Rattle.plane_spec.specs.ProfileRules.{is_unserved_group, has_zero, is_
 ghost use Rattle.plane_spec.specs.UpdateRules.{repeats, is_watched, is_weight};
 
 use crate::{rules, sets};
-use list_types::{List, NoMemory};
+use list_types::NoMemory;
 use p4_types::code::{Cause, Code, Rule};
 use p4_types::info::ActionProfile;
 use p4_types::messages::{ActionProfileGroup, Member};
 use p4_types::profiles::{Group, ProfileChange, Share};
 use p4_types::shared::Shared;
 use p4_types::table::{Change, UpdateKind};
+use p4_types::weights::WeightedList;
 use p4info_model::P4Info;
 use std::alloc::Global;
 
@@ -135,10 +136,10 @@ fn share_by(member: &Member) -> Share
     }
 }
 
-fn shares_by(alloc: Global, members: &[Member]) -> Result<List<Share>, NoMemory>
+fn shares_by(alloc: Global, members: &[Member]) -> Result<WeightedList<Share>, NoMemory>
     ensures { IfOk result (λ shares. shares ≡ map share_by members.now) }
 {
-    let mut shares = List::new(alloc);
+    let mut shares = WeightedList::new(alloc);
     for member in members {
         shares.push(share_by(member))?;
     }

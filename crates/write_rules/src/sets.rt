@@ -5,12 +5,13 @@ ghost use Rattle.plane_spec.specs.Objects.{table_of};
 ghost use Rattle.plane_spec.specs.UpdateRules.{is_watched, has_watch, refers_in, is_of_profile, profile_call_flaw, is_weight, is_invalid, set_flaw, natural, weighted_call};
 
 use crate::{actions, matches};
-use list_types::{List, NoMemory};
+use list_types::NoMemory;
 use p4_types::code::Code;
 use p4_types::info::{ActionProfile, Table};
 use p4_types::messages::{Action, ActionProfileAction, TableAction};
 use p4_types::shared::Shared;
 use p4_types::table::WeightedCall;
+use p4_types::weights::WeightedList;
 use p4info_model::P4Info;
 use std::alloc::Global;
 
@@ -186,10 +187,10 @@ fn weighted_calls(
     alloc: Global,
     info: &P4Info,
     list: &[ActionProfileAction],
-) -> Result<List<WeightedCall>, NoMemory>
+) -> Result<WeightedList<WeightedCall>, NoMemory>
     ensures { IfOk result (λ calls. calls ≡ map (weighted_call info.now) list.now) }
 {
-    let mut calls = List::new(alloc);
+    let mut calls = WeightedList::new(alloc);
     for action in list {
         calls.push(weighted_call(info, action))?;
     }
@@ -201,7 +202,7 @@ pub(crate) fn calls_of(
     alloc: Global,
     info: &P4Info,
     list: &[ActionProfileAction],
-) -> Result<Shared<List<WeightedCall>>, NoMemory>
+) -> Result<Shared<WeightedList<WeightedCall>>, NoMemory>
     ensures { IfOk result (λ calls. calls ≡ map (weighted_call info.now) list.now) }
 {
     Shared::new(alloc, weighted_calls(alloc, info, list)?)

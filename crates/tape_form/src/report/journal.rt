@@ -1,7 +1,7 @@
 // The journal's lines of a report, call by call.
 ghost use Rattle.std.specs.Prelude.{◌≡◌, ◌<◌, ◌+◌, ◌-◌, ◌^◌, ◌++◌, ℕ, List, IfOk, OnOk, length, sum_by, string_bytes};
 ghost use Rattle.std.specs.List.{flat_map};
-ghost use Rattle.switch_spec.specs.ReportText.{notice_line, reply_line, step_line, step_lines, entry_lines, journal_lines};
+ghost use Rattle.run_spec.specs.ReportText.{notice_line, reply_line, step_line, step_lines, entry_lines, journal_lines};
 
 use crate::report::words::{kind_name, push_list, push_message};
 use p4_types::calls::Notice;

@@ -2,8 +2,8 @@
 ghost use Rattle.std.specs.Prelude.{◌≡◌, ◌++◌, ◌∷◌, [], ℕ, List, OnOk, codes, string_bytes};
 ghost use Rattle.std.specs.List.{flat_map};
 ghost use Rattle.std.specs.Fmt.{decimal};
-ghost use Rattle.switch_spec.specs.Text.{line};
-ghost use Rattle.switch_spec.specs.ReportText.{sent_line, count_line, cell_line};
+ghost use Rattle.run_spec.specs.Text.{line};
+ghost use Rattle.run_spec.specs.ReportText.{sent_line, count_line, cell_line};
 
 use crate::report::words::push_hex;
 use list_types::ByteList;

@@ -3,7 +3,8 @@ ghost use Rattle.std.specs.Prelude.{◌≡◌, ◌∷◌, ◌++◌, [], OnOk, co
 ghost use Rattle.std.specs.List.{flat_map, join_with_byte};
 ghost use Rattle.std.specs.Fmt.{decimal};
 ghost use Rattle.p4_types.specs.declared.tape.Who.TheVariants as who;
-ghost use Rattle.switch_spec.specs.ReportText.{is_who, who_word, fate_word, packet_line, packet_lines, records_of};
+ghost use Rattle.switch_spec.specs.Carrying.{is_who, records_of};
+ghost use Rattle.run_spec.specs.ReportText.{who_word, fate_word, packet_line, packet_lines};
 ghost use Rattle.tape_form.specs.LaneLines.{lane_lines};
 
 use crate::report::lines::AsLine;

@@ -1,7 +1,7 @@
 // The words of a report's lines.
 ghost use Rattle.std.specs.Prelude.{◌≡◌, ◌++◌, ℕ, List, OnOk, string_bytes};
-ghost use Rattle.switch_spec.specs.Text.{hex_word, list_word, option_word};
-ghost use Rattle.switch_spec.specs.ReportText.{kind_word, who_word, reason_number, fate_word, output_word, cpu_word, sample_word, mark_word};
+ghost use Rattle.run_spec.specs.Text.{hex_word, list_word, option_word};
+ghost use Rattle.run_spec.specs.ReportText.{kind_word, who_word, reason_number, fate_word, output_word, cpu_word, sample_word, mark_word};
 ghost use Rattle.p4v1_wire.specs.Rows.{fields_by};
 ghost use Rattle.wire_fields.specs.Spelling.{spelling};
 

@@ -5,4 +5,4 @@ use Rattle.plane_state.proofs.Refusing.{over}
 use Rattle.plane_state.proofs.causes.is_set_overweight.Goals as goal
 
 pub returns : goal.returns
-returns c = c.is_over.ensures ∙ ap (λ (w : ℕ). not (eqb c.weight_limit.result 0) && ltb c.weight_limit.result w) c.set_weight.ensures ∙ over (option_copied c.args.profile) _ (set_weight c.args.calls.now) c.weight_limit.type_inv c.weight_limit.ensures
+returns c = c.is_over.ensures ∙ ap (λ (w : ℕ). not (eqb c.weight_limit.result 0) && ltb c.weight_limit.result w) c.total.ensures ∙ over (option_copied c.args.profile) _ (set_weight c.args.calls.now) c.weight_limit.type_inv c.weight_limit.ensures

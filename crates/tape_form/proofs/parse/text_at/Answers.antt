@@ -1,5 +1,5 @@
 use Rattle.std.proofs.Common.{arith}
-use Rattle.switch_spec.specs.TapeReading.{text_at}
+use Rattle.run_spec.specs.TapeReading.{text_at}
 use Rattle.tape_form.proofs.Loop.{text_missing}
 use Rattle.tape_form.proofs.parse.text_at.Goals as goal
 

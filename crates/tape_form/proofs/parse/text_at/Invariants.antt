@@ -1,5 +1,5 @@
 use Rattle.std.proofs.Common.{◌≡◌, drop}
-use Rattle.switch_spec.specs.TapeReading.{text_at}
+use Rattle.run_spec.specs.TapeReading.{text_at}
 use Rattle.tape_form.proofs.parse.text_at.Given as goal
 
 abbrev pub invariant-loop-wanted : goal.invariant-loop-wanted

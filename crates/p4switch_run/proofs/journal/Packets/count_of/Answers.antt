@@ -3,7 +3,7 @@ use Rattle.std.specs.Prelude.{count_by}
 use Rattle.p4_types.specs.declared.records.Record.{Record}
 use Rattle.p4_types.specs.declared.tape.Who.{Who}
 use Rattle.p4_types.specs.declared.tape.Who.TheVariants.{Controller, Worker}
-use Rattle.switch_spec.specs.ReportText.{is_who}
+use Rattle.switch_spec.specs.Carrying.{is_who}
 use Rattle.p4switch_run.specs.Tallies.{IsLane}
 use Rattle.p4switch_run.proofs.journal.Packets.count_of.Goals as goal
 

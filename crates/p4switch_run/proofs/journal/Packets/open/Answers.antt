@@ -1,7 +1,7 @@
 use Rattle.std.proofs.Common.{ℕ, ◌∙◌, sym, ap}
 use Rattle.std.specs.Prelude.{count_by}
 use Rattle.p4_types.specs.declared.tape.Who.TheVariants.{Controller, Worker}
-use Rattle.switch_spec.specs.ReportText.{is_who}
+use Rattle.switch_spec.specs.Carrying.{is_who}
 use Rattle.p4_types.specs.declared.records.Record.{Record}
 use Rattle.p4switch_run.proofs.TallyLemmas.{tallies_none}
 use Rattle.p4switch_run.proofs.journal.Packets.open.Goals as goal

@@ -1,6 +1,6 @@
 use Rattle.std.proofs.Common.{length, ap, ◌∙◌}
 use Rattle.p4v1_read.specs.Calls.{call_of}
-use Rattle.switch_spec.specs.Answer.{Asks}
+use Rattle.switch_spec.specs.declared.calls.LaneCall.TheVariants.{Asks}
 use Rattle.p4switch_run.specs.Session.{State}
 use Rattle.p4switch_run.proofs.SessionLemmas.{turn_plays, turn_session, short_packet, takes_packet}
 use Rattle.p4switch_run.proofs.session.Session.call.Goals as goal

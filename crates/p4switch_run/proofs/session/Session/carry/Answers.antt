@@ -4,7 +4,7 @@ use Rattle.plane_spec.specs.Planes.{Control}
 use Rattle.slot_totals.specs.State.{figures}
 use Rattle.switch_spec.specs.Counts.{figures_after}
 use Rattle.switch_spec.specs.Meaning.{carried}
-use Rattle.switch_spec.specs.Play.{next_packet}
+use Rattle.run_spec.specs.Play.{next_packet}
 use Rattle.p4switch_run.specs.Session.{State, played_of}
 use Rattle.p4switch_run.proofs.SessionLemmas.{carried_is}
 use Rattle.p4switch_run.proofs.session.Session.carry.Goals as goal

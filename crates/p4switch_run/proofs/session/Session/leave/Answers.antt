@@ -1,6 +1,6 @@
 use Rattle.std.proofs.Common.{length, ap, ◌∙◌}
 use Rattle.p4_types.specs.declared.calls.Call.TheVariants.{Leave}
-use Rattle.switch_spec.specs.Answer.{Leaves}
+use Rattle.switch_spec.specs.declared.calls.LaneCall.TheVariants.{Leaves}
 use Rattle.p4switch_run.specs.Session.{State}
 use Rattle.p4switch_run.proofs.SessionLemmas.{turn_plays, turn_session, short_packet, takes_packet}
 use Rattle.p4switch_run.proofs.session.Session.leave.Goals as goal

@@ -1,5 +1,5 @@
 use Rattle.std.proofs.Common.{◌≡◌, ◌≤◌, ◌+◌, ◌-◌, ◌*◌, ◌^◌, ◌++◌, drop, length, sum_by, string_bytes}
-use Rattle.switch_spec.specs.ReportText.{journal_lines}
+use Rattle.run_spec.specs.ReportText.{journal_lines}
 use Rattle.tape_form.proofs.report.journal.push_journal.Given as goal
 
 abbrev pub invariant-loop-entry : goal.invariant-loop-entry

@@ -1,6 +1,6 @@
 use Rattle.std.proofs.Common.{◌≡◌, ◌++◌, drop, string_bytes}
 use Rattle.std.specs.List.{flat_map}
-use Rattle.switch_spec.specs.ReportText.{notice_line}
+use Rattle.run_spec.specs.ReportText.{notice_line}
 use Rattle.tape_form.proofs.report.journal.push_notices.Given as goal
 
 abbrev pub invariant-loop-notice : goal.invariant-loop-notice

@@ -1,5 +1,5 @@
 use Rattle.std.proofs.Common.{◌≡◌, ◌+◌, ◌++◌, drop, string_bytes}
-use Rattle.switch_spec.specs.ReportText.{step_lines}
+use Rattle.run_spec.specs.ReportText.{step_lines}
 use Rattle.tape_form.proofs.report.journal.push_steps.Given as goal
 
 abbrev pub invariant-loop-step : goal.invariant-loop-step

@@ -1,6 +1,7 @@
 use Rattle.std.proofs.Common.{◌≡◌, ◌++◌, take, string_bytes}
 use Rattle.std.specs.List.{flat_map}
-use Rattle.switch_spec.specs.ReportText.{packet_line, records_of}
+use Rattle.switch_spec.specs.Carrying.{records_of}
+use Rattle.run_spec.specs.ReportText.{packet_line}
 use Rattle.tape_form.proofs.report.packets.push_lane.Given as goal
 
 abbrev pub invariant-loop-packet : goal.invariant-loop-packet

@@ -1,7 +1,7 @@
 use Rattle.std.proofs.Common.{codes, string_bytes}
 use Rattle.std.specs.Fmt.{decimal}
-use Rattle.switch_spec.specs.Text.{list_word, option_word}
-use Rattle.switch_spec.specs.ReportText.{who_word, fate_word, output_word, cpu_word, sample_word, mark_word}
+use Rattle.run_spec.specs.Text.{list_word, option_word}
+use Rattle.run_spec.specs.ReportText.{who_word, fate_word, output_word, cpu_word, sample_word, mark_word}
 use Rattle.tape_form.proofs.Joining.{packet_written}
 use Rattle.tape_form.proofs.report.packets.RecordAsLine.push_line.Goals as goal
 

@@ -1,0 +1,4 @@
+pub mod Shares
+pub mod Work
+pub mod Running
+pub mod Laws

@@ -1,0 +1,11 @@
+pub mod Determined
+pub mod Fitting
+pub mod Following
+pub mod Meeting
+pub mod Playing
+pub mod Readers
+pub mod Standing
+pub mod TapeItems
+pub mod TapeRecords
+pub mod Tapes
+pub mod WorkedRows

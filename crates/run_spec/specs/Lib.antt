@@ -1,0 +1,8 @@
+pub mod Play
+pub mod Report
+pub mod ReportText
+pub mod Rows
+pub mod Tape
+pub mod TapeLaws
+pub mod TapeReading
+pub mod Text
