@@ -5,3 +5,4 @@ mod published;
 mod steps;
 
 pub use published::Published;
+pub use steps::{kinds_of, steps_in};

@@ -43,10 +43,7 @@ fn step_of(event: &Event<Config>) -> Option<Step>
 }
 
 /// The step that each of these events is, if it is one.
-pub(crate) fn kinds_of(
-    alloc: Global,
-    events: &[Event<Config>],
-) -> Result<Vec<Option<Step>>, NoMemory>
+pub fn kinds_of(alloc: Global, events: &[Event<Config>]) -> Result<Vec<Option<Step>>, NoMemory>
     ensures { IfOk result (λ kinds. kinds.items ≡ map step_of events.now) }
 {
     let mut kinds = Vec::new(alloc);
@@ -66,7 +63,7 @@ fn push_step(steps: &mut List<Step>, kind: Option<Step>) -> Result<(), NoMemory>
 }
 
 /// The steps among these.
-pub(crate) fn steps_in(alloc: Global, kinds: &[Option<Step>]) -> Result<List<Step>, NoMemory>
+pub fn steps_in(alloc: Global, kinds: &[Option<Step>]) -> Result<List<Step>, NoMemory>
     ensures { IfOk result (λ steps. steps ≡ steps_in kinds.now) }
 {
     let mut steps = List::new(alloc);

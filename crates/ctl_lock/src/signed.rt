@@ -1,0 +1,17 @@
+//! Calls that were made.
+use crate::figures::Loaded;
+use lane_table::OfLane;
+use p4_types::journal::Entry;
+use switch_spec::calls::LaneCall;
+
+/// A call that was made, what counters had counted where it asked, and its entry in the journal.
+#[derive(Drop)]
+pub struct Signed {
+    pub call: LaneCall,
+    pub figures: Loaded,
+    pub entry: Entry,
+}
+
+impl OfLane for Signed {
+    ghost lane = { λ signed. signed.entry.lane };
+}
