@@ -1,11 +1,6 @@
 -- Calls that were made.
-use Rattle.std.specs.Prelude.{ℕ, Bool, true, false, List, map, Option, Some, None, slice_get}
-use Rattle.std.specs.List.{list_any}
+use Rattle.std.specs.Prelude.{ℕ, List, map, Option, Some, None, slice_get}
 use Rattle.ctl_lock.specs.declared.signed.Signed.{Signed}
-use Rattle.p4_types.specs.declared.calls.Call.{Call}
-use Rattle.p4_types.specs.declared.calls.Call.TheVariants as calls
-use Rattle.p4_types.specs.declared.messages.Entity.{Entity}
-use Rattle.p4_types.specs.declared.messages.Entity.TheVariants as entities
 use Rattle.switch_spec.specs.Counts.{Figures}
 use Rattle.switch_spec.specs.History.{Made}
 
@@ -25,14 +20,3 @@ made_of signed = record { call = signed.call; figures = figures_in signed.figure
 -- the journal of calls that were signed
 abbrev pub journal_of : List Signed → List Made
 journal_of list = map made_of list
-
--- whether an entity that is asked for is what counters have counted
-abbrev pub asks_counters : Option Entity → Bool
-asks_counters (Some (entities.CounterEntry asked)) = true
-asks_counters (Some (entities.DirectCounterEntry asked)) = true
-asks_counters _ = false
-
--- whether a call is answered by what counters have counted
-abbrev pub reads_counters : Call → Bool
-reads_counters (calls.Read request) = list_any asks_counters request.entities
-reads_counters _ = false

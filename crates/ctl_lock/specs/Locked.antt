@@ -12,7 +12,7 @@ use Rattle.p4_types.specs.declared.events.Start.{Start}
 use Rattle.p4_types.specs.declared.journal.Entry.{Entry}
 use Rattle.plane_spec.specs.Config.{Event}
 use Rattle.plane_spec.specs.Planes.{opened, applied}
-use Rattle.switch_spec.specs.Answer.{answer_to}
+use Rattle.switch_spec.specs.Answer.{answer_to, called}
 use Rattle.switch_spec.specs.Counts.{Figures}
 use Rattle.switch_spec.specs.History.{Made, History, Numbered, journal_events, steps_of}
 use Rattle.switch_spec.specs.declared.calls.LaneCall.{LaneCall}
@@ -44,9 +44,9 @@ pub record Locking : Type 0 where
   pub journal : List Signed
 
 -- a call that was read is this one; one that was not read for want of memory may be any
-abbrev pub IsRead : LaneCall → (LaneCall → Call) → Option Call → Type 0
-IsRead call called None = Unit {0}
-IsRead call called (Some read) = read ≡ called call
+abbrev pub IsRead : LaneCall → Option Call → Type 0
+IsRead call None = Unit {0}
+IsRead call (Some read) = read ≡ called call
 
 -- a lane's call was handled, with this reply
 pub record IsHandled (lane : ℕ) (g : Figures) (call : Call) (old : Core) (given : List Event) (reply : Reply) (new : Core) (now : List Event) : Type 0 where
@@ -75,8 +75,3 @@ pub record IsCalled (start : Start) (list : ListName) (call : LaneCall) (figures
   pub told_list : outcome.told.list ≡ list
   pub told_start : outcome.told.start ≡ start
   pub told_steps : length (steps_of outcome.told.events) ≡ signed.entry.reply.steps
-
--- the same, whatever the figures are that the call was signed with
-pub record IsMade (start : Start) (list : ListName) (call : LaneCall) (before after : Lane Signed) (outcome : Outcome) : Type 0 where
-  pub figures : List (ℕ × ℕ)
-  pub called : IsCalled start list call figures before after outcome

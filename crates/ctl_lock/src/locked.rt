@@ -1,5 +1,5 @@
 //! What stands behind the lock: the control of the switch, the published list, and the journal.
-ghost use Rattle.std.specs.Prelude.{◌≡◌, ◌<◌, ◌≤◌, ◌^◌, [], length, replicate, drop, slice_index, set, IfOk, IfSome, OnOk, OnErr};
+ghost use Rattle.std.specs.Prelude.{◌≡◌, ◌<◌, ◌≤◌, ◌+◌, ◌^◌, [], length, replicate, drop, slice_index, set, IfOk, IfSome, OnOk, OnErr};
 ghost use Rattle.ctl_core.specs.Core.{Handled, raised};
 ghost use Rattle.ctl_lock.specs.Calls.{figures_in, journal_of};
 ghost use Rattle.ctl_lock.specs.Locked.{IsRead, IsHandled, IsEntry, IsCalled, IsStanding, seat_of};
@@ -84,7 +84,7 @@ fn reply<J: Naming, R: Wait + Drop>(
 ) -> Reply
     requires lane { lane < 32 }
     requires state { applied (opened J.start) (all_of line.old) ≡ control.old.control }
-    ensures { (call : LaneCall) → IsRead call called read.now → IsHandled lane (figures_in figures.now) (called call) control.old (all_of line.old) result control.new (all_of line.new) }
+    ensures { (call : LaneCall) → IsRead call read.now → IsHandled lane (figures_in figures.now) (called call) control.old (all_of line.old) result control.new (all_of line.new) }
 {
     match read {
         Some(call) => control.handle(alloc, lane, call, line, figures),
@@ -130,6 +130,7 @@ impl<J: Naming, R: Wait + Drop> Locked<J, R> {
         requires begin { publisher.told.start ≡ J.start }
         requires nothing { all_of publisher ≡ [] }
         requires pending { publisher.pending ≡ [] }
+        ensures { result ≡ record { core = control; events = []; journal = [] } }
     {
         Locked {
             alloc,
@@ -144,6 +145,9 @@ impl<J: Naming, R: Wait + Drop> Locked<J, R> {
     pub fn into_parts(self) -> (Control, Line<J, R>, Vec<Signed>, JournalSeat<Signed>)
         ensures seat { result.3 ≡ seat_of J.table result.2.items }
         ensures standing { IsStanding J.start (all_of result.1) result.0 (journal_of result.2.items) }
+        ensures control { result.0 ≡ self.core }
+        ensures events { all_of result.1 ≡ self.events }
+        ensures journal { result.2.items ≡ self.journal }
     {
         let Locked {
             alloc: _,
@@ -172,9 +176,11 @@ impl<J: Naming, R: Wait + Drop> Locked<J, R> {
         requires seat { seat.old.table ≡ J.table }
         requires number { seat.old.number ≡ lane }
         requires lane { lane < 32 }
-        requires read { IsRead call called read.now }
+        requires read { IsRead call read.now }
         ensures made { IfOk result (IsCalled J.start J.list call figures seat.old seat.new) }
+        ensures journal { OnOk result (length self.new.journal ≡ length self.old.journal + 1) }
         ensures kept { OnErr result (seat.new ≡ seat.old) }
+        ensures same { OnErr result (self.new ≡ self.old) }
     {
         self.journal.reserve(1)?;
         let before = self.line.len();
@@ -195,6 +201,7 @@ impl<J: Naming, R: Wait + Drop> Locked<J, R> {
         };
         table.sign(&mut self.seat, seat, &signed);
         self.journal.push_reserved(signed);
+        // its length is a number of the machine, as the numbers of calls have to be
         let _made = self.journal.len();
         self.line.publish();
         Ok(Outcome {
@@ -205,7 +212,8 @@ impl<J: Naming, R: Wait + Drop> Locked<J, R> {
 
     /// The slot of the counters that is drawn next.
     pub fn next_slot(&self) -> u32
-        ensures { result ≤ slot_limit }
+        ensures slot { result ≡ self.now.core.control.next_slot }
+        ensures limit { result ≤ slot_limit }
     {
         self.control.image().next_slot()
     }
