@@ -142,3 +142,19 @@ impl Truth {
         Truth { node }
     }
 }
+
+unsafe impl Send for Number {}
+
+unsafe impl Sync for Number {}
+
+unsafe impl Send for NumberNode {}
+
+unsafe impl Sync for NumberNode {}
+
+unsafe impl Send for Truth {}
+
+unsafe impl Sync for Truth {}
+
+unsafe impl Send for TruthNode {}
+
+unsafe impl Sync for TruthNode {}

@@ -1,1 +1,6 @@
+mod Closing
+mod Going
+mod Meeting
+mod Noting
 mod Standing
+mod Turning

@@ -1,12 +1,11 @@
 -- A journal with one call more.
-use Rattle.std.proofs.Common.{◌≡◌, ℕ, zero, suc, ◌+◌, ◌-◌, ◌^◌, ◌<◌, ◌≤◌, ◌==◌, Bool, true, false, cond, List, [], ◌∷◌, ◌++◌, length, map, drop, slice_index, set, Option, Some, None, IfSome, refl, ap, ◌∙◌, sym, subst, arith, add-zero, append_assoc, length-append, length-set}
-use Rattle.std.proofs.lemmas.Bool.{eqb-true, eqb-false, cond-false}
+use Rattle.std.proofs.Common.{◌≡◌, ℕ, zero, suc, ◌+◌, ◌-◌, ◌^◌, ◌<◌, ◌≤◌, ◌==◌, Bool, true, false, cond, List, [], ◌∷◌, ◌++◌, length, drop, slice_index, set, IfSome, refl, ap, ◌∙◌, sym, subst, arith, add-zero, append_assoc, length-append, length-set}
+use Rattle.std.proofs.lemmas.Bool.{eqb-true, eqb-false}
 use Rattle.std.proofs.lemmas.List.{append-nil, get_or-set_same, get_or-set_other, length-map, length-replicate, map-append}
 use Rattle.std.proofs.lemmas.List.Elements.{filter_map-append}
 use Rattle.std.proofs.lemmas.List.Sums.{sum_by-append, count_by-le-length, fold-append}
 use Rattle.std.proofs.Math.Seq.{drop-append_seam}
 use Rattle.std.specs.Prelude.{count_by, replicate, sum_by}
-use Rattle.std.specs.List.{filter_map}
 use Rattle.ctl_core.specs.Core.{Core, HandledBy, raised, replied, without_memory}
 use Rattle.ctl_lock.specs.Calls.{made_of, journal_of}
 use Rattle.ctl_lock.specs.Locked.{IsStanding, IsHandled, IsEntry, entries_of}

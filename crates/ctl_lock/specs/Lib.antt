@@ -1,2 +1,5 @@
 pub mod Calls
+pub mod Finishing
 pub mod Locked
+pub mod Passing
+pub mod Reading

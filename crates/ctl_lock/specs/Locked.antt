@@ -1,20 +1,25 @@
 -- What stands behind the lock, and what one call makes of it.
-use Rattle.std.specs.Prelude.{◌≡◌, ℕ, ◌<◌, ◌≤◌, ◌==◌, List, [], ◌∷◌, ◌++◌, length, map, count_by, sum_by, slice_index, set, Option, Some, None, IfOk, IfSome}
+use Rattle.std.specs.Prelude.{◌≡◌, ℕ, ◌<◌, ◌≤◌, ◌==◌, Bool, true, false, List, [], ◌∷◌, length, map, count_by, sum_by, slice_index, set, Option, Some, None, IfOk, IfSome}
 use Rattle.ctl_core.specs.Core.{Core, Handled, raised}
 use Rattle.ctl_lock.specs.declared.locked.Outcome.{Outcome}
 use Rattle.ctl_lock.specs.declared.signed.Signed.{Signed}
-use Rattle.ctl_lock.specs.Calls.{figures_in}
+use Rattle.ctl_lock.specs.Calls.{made_of}
+use Rattle.ctl_lock.specs.Passing.{Follows}
+use Rattle.ctl_lock.specs.Reading.{AreSums, Looks, noted_by}
 use Rattle.event_log.specs.Lists.{ListName}
 use Rattle.lane_table.specs.Lanes.{Lane, Journal, LaneTableId, with_call}
+use Rattle.lane_work.specs.Work.{Work, steps_told}
 use Rattle.p4_types.specs.declared.calls.Call.{Call}
+use Rattle.p4_types.specs.declared.calls.Call.TheVariants as calls
 use Rattle.p4_types.specs.declared.calls.Reply.{Reply}
 use Rattle.p4_types.specs.declared.events.Start.{Start}
 use Rattle.p4_types.specs.declared.journal.Entry.{Entry}
 use Rattle.plane_spec.specs.Config.{Event}
-use Rattle.plane_spec.specs.Planes.{opened, applied}
+use Rattle.plane_spec.specs.Planes.{Control, opened, applied}
+use Rattle.pub_snap.specs.Beginnings.{Beginning}
 use Rattle.switch_spec.specs.Answer.{answer_to, called}
 use Rattle.switch_spec.specs.Counts.{Figures}
-use Rattle.switch_spec.specs.History.{Made, History, Numbered, journal_events, steps_of}
+use Rattle.switch_spec.specs.History.{Made, History, Numbered, is_refused_for_memory, journal_events, own_events, steps_of}
 use Rattle.switch_spec.specs.declared.calls.LaneCall.{LaneCall}
 
 -- the entries of a journal
@@ -54,6 +59,20 @@ pub record IsHandled (lane : ℕ) (g : Figures) (call : Call) (old : Core) (give
   pub steps : reply.steps ≡ new.steps
   pub calls : new.calls ≡ set old.calls lane (raised (slice_index old.calls lane) 1)
 
+-- whether a call reads
+abbrev pub reads : Call → Bool
+reads (calls.Read request) = true
+reads _ = false
+
+-- a call that reads saw the counter of each slot that was drawn in this state, unless it was refused for memory
+abbrev pub SeesAll : Control → Signed → Type 0
+SeesAll c signed = is_refused_for_memory (made_of signed) ≡ false → reads (called signed.call) ≡ true → length signed.figures ≡ c.next_slot
+
+-- so did each call of the journal, in the state that the calls before it left
+abbrev pub SeeAll : Control → List Signed → Type 0
+SeeAll c [] = Unit {0}
+SeeAll c (signed ∷ later) = SeesAll c signed × SeeAll (applied c (own_events c (made_of signed))) later
+
 -- the lane's next entry, with the steps of the events behind the first so many
 pub record IsEntry (lane number : ℕ) (added : List Event) (reply : Reply) (entry : Entry) : Type 0 where
   pub lane_is : entry.lane ≡ lane
@@ -75,3 +94,21 @@ pub record IsCalled (start : Start) (list : ListName) (call : LaneCall) (figures
   pub told_list : outcome.told.list ≡ list
   pub told_start : outcome.told.start ≡ start
   pub told_steps : length (steps_of outcome.told.events) ≡ signed.entry.reply.steps
+
+-- The lane's call was made and signed, and saw these sums of the counters.
+pub record HasSeen (start : Start) (list : ListName) (call : LaneCall) (sums : Figures) (before after : Lane Signed) (outcome : Outcome) : Type 0 where
+  pub figures : List (ℕ × ℕ)
+  pub are_sums : AreSums figures sums
+  pub called : IsCalled start list call figures before after outcome
+
+-- The call was made and signed, what it saw was loaded by the lane's own seat, and the packet that it made enter was run.
+pub record IsWhole (start : Start) (list : ListName) (cpu : ℕ) (call : LaneCall) (before after : Lane Signed) (work done : Work) : Type 0 where
+  pub signed : Signed
+  pub lane : after ≡ with_call before signed
+  pub call_is : signed.call ≡ call
+  pub seen : Work
+  pub looks : Looks work seen
+  pub are_sums : AreSums signed.figures (noted_by seen.seat)
+  pub told : Beginning
+  pub told_steps : steps_told told ≡ signed.entry.reply.steps
+  pub follows : Follows signed.entry.reply.packet cpu told seen done

@@ -1,12 +1,15 @@
 //! What stands behind the lock: the control of the switch, the published list, and the journal.
-ghost use Rattle.std.specs.Prelude.{◌≡◌, ◌<◌, ◌≤◌, ◌+◌, ◌^◌, [], length, replicate, drop, slice_index, set, IfOk, IfSome, OnOk, OnErr};
+ghost use Rattle.std.specs.Prelude.{◌≡◌, ◌<◌, ◌≤◌, ◌+◌, ◌^◌, [], length, replicate, drop, slice_index, set, IfOk, IfSome, IfNone, OnOk, OnErr, true, ℕ};
 ghost use Rattle.ctl_core.specs.Core.{Handled, raised};
 ghost use Rattle.ctl_lock.specs.Calls.{figures_in, journal_of};
-ghost use Rattle.ctl_lock.specs.Locked.{IsRead, IsHandled, IsEntry, IsCalled, IsStanding, seat_of};
+ghost use Rattle.ctl_lock.specs.Locked.{IsRead, IsHandled, IsEntry, IsCalled, IsStanding, SeeAll, reads, seat_of};
+ghost use Rattle.lane_work.specs.Work.{steps_told};
 ghost use Rattle.plane_spec.specs.Entries.{slot_limit};
 ghost use Rattle.plane_spec.specs.Planes.{opened, applied};
 ghost use Rattle.pub_snap.specs.Snapshots.{all_of};
 ghost use Rattle.switch_spec.specs.Answer.{called};
+ghost use Rattle.switch_spec.specs.Carrying.{made_on, steps_through};
+ghost use Rattle.switch_spec.specs.History.{is_unavailable};
 
 use crate::figures::Loaded;
 use crate::line::Line;
@@ -36,7 +39,8 @@ pub struct Locked<J: Naming, R: Wait + Drop> {
 impl<J: Naming, R: Wait + Drop> Model for Locked<J, R> {
     ghost use Rattle.std.specs.Prelude.{◌≡◌, []};
     ghost use Rattle.ctl_lock.specs.Calls.{journal_of};
-    ghost use Rattle.ctl_lock.specs.Locked.{Locking, IsStanding, seat_of};
+    ghost use Rattle.ctl_lock.specs.Locked.{Locking, IsStanding, SeeAll, seat_of};
+    ghost use Rattle.plane_spec.specs.Planes.{opened};
     ghost use Rattle.pub_snap.specs.Snapshots.{all_of};
     ghost use Rattle.bm_expr.specs.TreeCode.{number_code, truth_code};
     ghost use Rattle.std.specs.Coded.{codes};
@@ -50,7 +54,8 @@ impl<J: Naming, R: Wait + Drop> Model for Locked<J, R> {
     ghost invariant = { λ l.
         (l.line.pending ≡ [])
         × (l.seat ≡ seat_of J.table l.journal.items)
-        × IsStanding J.start (all_of l.line) l.control (journal_of l.journal.items) };
+        × IsStanding J.start (all_of l.line) l.control (journal_of l.journal.items)
+        × SeeAll (opened J.start) l.journal.items };
 }
 
 /// What a call that was made comes to beside its entry: the packet that it makes enter, or want of memory for it, and what is
@@ -84,7 +89,8 @@ fn reply<J: Naming, R: Wait + Drop>(
 ) -> Reply
     requires lane { lane < 32 }
     requires state { applied (opened J.start) (all_of line.old) ≡ control.old.control }
-    ensures { (call : LaneCall) → IsRead call read.now → IsHandled lane (figures_in figures.now) (called call) control.old (all_of line.old) result control.new (all_of line.new) }
+    ensures refused { IfNone read.now (is_unavailable result.code ≡ true) }
+    ensures handled { (call : LaneCall) → IsRead call read.now → IsHandled lane (figures_in figures.now) (called call) control.old (all_of line.old) result control.new (all_of line.new) }
 {
     match read {
         Some(call) => control.handle(alloc, lane, call, line, figures),
@@ -145,6 +151,8 @@ impl<J: Naming, R: Wait + Drop> Locked<J, R> {
     pub fn into_parts(self) -> (Control, Line<J, R>, Vec<Signed>, JournalSeat<Signed>)
         ensures seat { result.3 ≡ seat_of J.table result.2.items }
         ensures standing { IsStanding J.start (all_of result.1) result.0 (journal_of result.2.items) }
+        ensures seen { SeeAll (opened J.start) result.2.items }
+        ensures pending { result.1.pending ≡ [] }
         ensures control { result.0 ≡ self.core }
         ensures events { all_of result.1 ≡ self.events }
         ensures journal { result.2.items ≡ self.journal }
@@ -177,6 +185,7 @@ impl<J: Naming, R: Wait + Drop> Locked<J, R> {
         requires number { seat.old.number ≡ lane }
         requires lane { lane < 32 }
         requires read { IsRead call read.now }
+        requires drawn { IfSome read.now (λ call. reads call ≡ true → length figures ≡ self.old.core.control.next_slot) }
         ensures made { IfOk result (IsCalled J.start J.list call figures seat.old seat.new) }
         ensures journal { OnOk result (length self.new.journal ≡ length self.old.journal + 1) }
         ensures kept { OnErr result (seat.new ≡ seat.old) }
@@ -208,6 +217,26 @@ impl<J: Naming, R: Wait + Drop> Locked<J, R> {
             packet,
             told: self.line.tell(),
         })
+    }
+
+    /// How many calls a lane has made, what is published, and a note of the journal, which has those calls.
+    pub(crate) fn noted(
+        &mut self,
+        table: &LaneTable<Signed>,
+        lane: u16,
+    ) -> (u64, Told, Note<Signed>)
+        requires table { table.now ≡ J.table }
+        requires lane { lane < 32 }
+        ensures number { result.0 ≡ length (made_on lane (journal_of result.2.entries)) }
+        ensures through { (call : ℕ) → call ≤ result.0 → steps_through lane call (journal_of result.2.entries) ≤ steps_told result.1 }
+        ensures list { result.1.list ≡ J.list }
+        ensures start { result.1.start ≡ J.start }
+        ensures noted { result.2 ≡ record { table = J.table; entries = self.old.journal } }
+        ensures same { self.new ≡ self.old }
+    {
+        let number = self.control.calls_of(lane);
+        let note = table.note(&mut self.seat);
+        (number, self.line.tell(), note)
     }
 
     /// The slot of the counters that is drawn next.

@@ -6,11 +6,13 @@ ghost use Rattle.event_log.specs.Lists as log;
 ghost use Rattle.lane_table.specs.Lanes as table;
 ghost use Rattle.p4_types.specs.declared.events.Start as start;
 ghost use Rattle.switch_spec.specs.declared.calls.LaneCall as calls;
+ghost use Rattle.switch_spec.specs.declared.calls.WorkerItem as items;
 
 use std::marker::Brand;
 
-/// The names of one run: its lane table, its published list, its bank of counters, with what it starts, and the calls that each
-/// lane is to make. What stands under a lock or goes through a thread is known by them alone.
+/// The names of one run: its lane table, its published list, its bank of counters, with what it starts, the calls that each
+/// controller's lane is to make, and what each worker's lane is given. What stands under a lock or goes through a thread is known
+/// by them alone.
 pub trait Naming {
     ghost table: { table.LaneTableId };
 
@@ -21,6 +23,8 @@ pub trait Naming {
     ghost start: { start.Start };
 
     ghost calls: { ℕ → spec.List calls.LaneCall };
+
+    ghost items: { ℕ → spec.List items.WorkerItem };
 }
 
 impl Naming for Brand {
@@ -33,4 +37,6 @@ impl Naming for Brand {
     ghost start = { record { device = 0; cpu = 0; rows = 0; bridge = false } };
 
     ghost calls = { λ lane. [] };
+
+    ghost items = { λ lane. [] };
 }

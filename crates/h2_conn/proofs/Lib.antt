@@ -5,3 +5,7 @@ pub mod Turns
 pub mod Histories
 pub mod UnreadKept
 pub mod WholeFrames
+pub mod StreamBounds
+pub mod Apart
+pub mod TableBounds
+pub mod Bounded

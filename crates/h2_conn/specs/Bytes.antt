@@ -112,10 +112,10 @@ without_output (phases.Open conn) = phases.Open (record conn { outgoing = record
 without_output (phases.Broken code output) = phases.Broken code []
 without_output phases.OutOfMemory = phases.OutOfMemory
 
--- What bytes give: the events and the connection that they lead to, and its code if a breach ended it. Without memory the connection is lost.
+-- What bytes give: the events and the connection that they lead to, and its code if a breach ended it. Without memory the connection is lost, but not one that a breach has ended, whose code is told again.
 abbrev pub Feeds : Result (List H2Event × Option H2Code) NoMemory → Phase → Phase → List ℕ → Type 0
 Feeds (Ok x) old new piece = (◌≡◌ {A = Phase × List H2Event} (new, x.0) (run old piece)) × (x.1 ≡ code_of new) × ¬ (old ≡ phases.OutOfMemory)
-Feeds (Err e) old new piece = new ≡ phases.OutOfMemory
+Feeds (Err e) old new piece = (new ≡ phases.OutOfMemory) × (code_of old ≡ None)
 
 -- Cutting bytes in two changes nothing: not the connection behind them, not the events, one part after the other.
 abbrev pub AnyCut : Type 0

@@ -1,5 +1,7 @@
+pub mod Apart
 pub mod Blocks
 pub mod Frames
 pub mod Bytes
 pub mod Sends
 pub mod History
+pub mod Bounds

@@ -8,7 +8,7 @@ use crate::headers::{continuation, given, headers};
 use crate::placing::{is_misplaced, judged};
 use crate::settings::{grant_connection, grant_stream, ping, settings};
 use crate::state::{HeaderBlock, State};
-use h2_frames::{Frame, H2Code, Head, read_payload};
+use h2_frames::{Frame, H2Code, Head, read_gathered, read_payload};
 use h2_streams::Outgoing;
 use list_types::{ByteList, NoMemory, Refusal};
 use std::alloc::Global;
@@ -149,5 +149,21 @@ pub(crate) fn take_frame(
 {
     let misplaced = is_misplaced(head, conn);
     let frame = judged(misplaced, read_payload(alloc, head, payload))?;
+    act(alloc, conn, head.length, frame)
+}
+
+/// The same of a payload that came in pieces, which its caller gives away.
+#[tactic(auto, unfolding(crate::specs::Frames::frame_taken))]
+pub(crate) fn take_gathered_frame(
+    alloc: Global,
+    conn: &mut State,
+    head: &Head,
+    payload: ByteList,
+) -> Result<Given, Refusal<H2Code>>
+    requires { length payload ≡ head.now.length }
+    ensures { Takes result conn.old conn.new (frame_taken head.now payload conn.old) }
+{
+    let misplaced = is_misplaced(head, conn);
+    let frame = judged(misplaced, read_gathered(alloc, head, payload))?;
     act(alloc, conn, head.length, frame)
 }

@@ -5,11 +5,12 @@ ghost use Rattle.h2_conn.specs.Frames.{frame_taken};
 ghost use Rattle.h2_conn.specs.Bytes.{last_stream, settled_by, preface_taken, frame_bytes_taken, waiting_for_more, bytes_taken, events_of, option_list, ends_of, run, Settles, Looks, IsTurn, span, Advances};
 ghost use Rattle.h2_conn.specs.declared.phase.Phase.TheVariants as phases;
 
-use crate::acting::take_frame;
+use crate::acting::{take_frame, take_gathered_frame};
 use crate::breach::Breach;
 use crate::event::{Given, H2Event, nothing};
 use crate::state::State;
-use h2_frames::{H2Code, Head, read_head};
+use crate::unread::{Unread, head_of};
+use h2_frames::{H2Code, Head};
 use list_types::{ByteList, List, NoMemory, Refusal};
 use std::alloc::Global;
 
@@ -19,10 +20,12 @@ const PREFACE: &[u8] = b"PRI * HTTP/2.0\r\n\r\nSM\r\n\r\n";
 // The longest payload, in bytes.
 const MAX_LENGTH: u32 = 16_384;
 
+// The bytes of the preface that have come.
 #[tactic(auto, unfolding(crate::specs::Bytes::preface_taken))]
-fn take_preface(alloc: Global, conn: &mut State, bytes: ByteList) -> Result<Given, Refusal<Breach>>
-    ensures { Settles result conn.old conn.new (preface_taken bytes conn.old) }
+fn take_preface(alloc: Global, conn: &mut State) -> Result<Given, Refusal<Breach>>
+    ensures { Settles result conn.old conn.new (preface_taken conn.old.unread conn.old) }
 {
+    let bytes = conn.unread.joined(alloc)?;
     if !PREFACE.starts_with(bytes.as_slice()) {
         return Err(Refusal::For(Breach {
             code: H2Code::ProtocolError,
@@ -31,23 +34,9 @@ fn take_preface(alloc: Global, conn: &mut State, bytes: ByteList) -> Result<Give
     }
     if bytes.len() == 24 {
         conn.greeted = true;
-        conn.unread = ByteList::new(alloc);
-        return Ok(nothing());
+        conn.unread = Unread::new(alloc);
     }
-    conn.unread = bytes;
     Ok(nothing())
-}
-
-// The head at the front, if it is whole.
-fn head_of(bytes: &[u8]) -> Option<Head>
-    ensures { MatchOption result (length bytes.now < 9) (λ head. (9 ≤ length bytes.now) × (head ≡ head_at (take 9 bytes.now))) }
-{
-    match bytes {
-        [a, b, c, d, e, f, g, h, i, ..] => {
-            Some(read_head(&[*a, *b, *c, *d, *e, *f, *g, *h, *i]))
-        }
-        _ => None,
-    }
 }
 
 fn last_stream(head: &Head, conn: &State) -> u32
@@ -86,7 +75,7 @@ fn take_payload(
     requires { length payload.now ≡ head.now.length }
     ensures { Settles result conn.old conn.new (settled_by (last_stream head.now conn.old) (frame_taken head.now payload.now (record conn.old { unread = [] }))) }
 {
-    conn.unread = ByteList::new(alloc);
+    conn.unread = Unread::new(alloc);
     take_whole(alloc, conn, head, payload)
 }
 
@@ -113,21 +102,54 @@ fn look(alloc: Global, conn: &mut State, bytes: &[u8]) -> Result<Option<Given>, 
     Ok(Some(take_payload(alloc, conn, &head, payload)?))
 }
 
-// Bytes at the front of a piece, behind what is kept.
+// A frame that was gathered.
+fn take_gathered(
+    alloc: Global,
+    conn: &mut State,
+    head: &Head,
+    payload: ByteList,
+) -> Result<Given, Refusal<Breach>>
+    requires { length payload ≡ head.now.length }
+    ensures { Settles result conn.old conn.new (settled_by (last_stream head.now conn.old) (frame_taken head.now payload conn.old)) }
+{
+    let last_stream = last_stream(head, conn);
+    match take_gathered_frame(alloc, conn, head, payload) {
+        Ok(given) => Ok(given),
+        Err(Refusal::NoMemory) => Err(Refusal::NoMemory),
+        Err(Refusal::For(code)) => Err(Refusal::For(Breach { code, last_stream })),
+    }
+}
+
+// A frame behind the preface of which the bytes are kept, if it is whole.
 #[tactic(auto, unfolding(crate::specs::Bytes::frame_bytes_taken))]
-fn take_behind(alloc: Global, conn: &mut State, bytes: ByteList) -> Result<Given, Refusal<Breach>>
-    ensures { Settles result conn.old conn.new (bytes_taken bytes conn.old) }
+fn take_frame_kept(alloc: Global, conn: &mut State) -> Result<Given, Refusal<Breach>>
+    ensures { Settles result conn.old conn.new (frame_bytes_taken conn.old.unread conn.old) }
+{
+    let Some(head) = conn.unread.head() else {
+        return Ok(nothing());
+    };
+    if head.length > MAX_LENGTH {
+        return Err(Refusal::For(Breach {
+            code: H2Code::FrameSizeError,
+            last_stream: conn.greatest,
+        }));
+    }
+    let length = head.length as usize;
+    if conn.unread.len() < 9 + length {
+        return Ok(nothing());
+    }
+    let unread = std::mem::replace(&mut conn.unread, Unread::new(alloc));
+    take_gathered(alloc, conn, &head, unread.into_payload(length))
+}
+
+// The bytes that are kept, once more of them have come.
+fn take_kept(alloc: Global, conn: &mut State) -> Result<Given, Refusal<Breach>>
+    ensures { Settles result conn.old conn.new (bytes_taken conn.old.unread conn.old) }
 {
     if !conn.greeted {
-        return take_preface(alloc, conn, bytes);
+        return take_preface(alloc, conn);
     }
-    match look(alloc, conn, bytes.as_slice())? {
-        Some(given) => Ok(given),
-        None => {
-            conn.unread = bytes;
-            Ok(nothing())
-        }
-    }
+    take_frame_kept(alloc, conn)
 }
 
 fn take_alone(alloc: Global, conn: &mut State, front: &[u8]) -> Result<Given, Refusal<Breach>>
@@ -143,16 +165,15 @@ fn take_alone(alloc: Global, conn: &mut State, front: &[u8]) -> Result<Given, Re
     }
 }
 
-// The front of a piece; a frame that is whole in it is not copied.
+// The front of a piece; a frame that is whole in it is not kept.
 fn take_front(alloc: Global, conn: &mut State, front: &[u8]) -> Result<Given, Refusal<Breach>>
     ensures { Settles result conn.old conn.new (bytes_taken (conn.old.unread ++ front.now) conn.old) }
 {
     if conn.greeted && conn.unread.is_empty() {
         return take_alone(alloc, conn, front);
     }
-    let mut bytes = std::mem::replace(&mut conn.unread, ByteList::new(alloc));
-    bytes.extend_from_slice(front)?;
-    take_behind(alloc, conn, bytes)
+    conn.unread.extend_from_slice(front)?;
+    take_kept(alloc, conn)
 }
 
 fn push_event(events: &mut List<H2Event>, event: Option<H2Event>) -> Result<(), NoMemory>
@@ -197,12 +218,12 @@ fn count_alone(piece: &[u8]) -> usize
 }
 
 // The same behind bytes that are kept.
-fn count_behind(kept: &[u8], piece: &[u8]) -> usize
+fn count_behind(kept: &Unread, piece: &[u8]) -> usize
     requires { 0 < length piece.now }
     ensures within { (0 < result) × (result ≤ length piece.now) }
     ensures turn { IsTurn true (kept.now ++ take result piece.now) result }
 {
-    let Some(head) = head_of(kept) else {
+    let Some(head) = kept.head() else {
         return piece.len().min(9 - kept.len());
     };
     if head.length > MAX_LENGTH || kept.len() >= 9 + head.length as usize {
@@ -222,7 +243,7 @@ fn count_of(conn: &State, piece: &[u8]) -> usize
     if conn.unread.is_empty() {
         return count_alone(piece);
     }
-    count_behind(conn.unread.as_slice(), piece)
+    count_behind(&conn.unread, piece)
 }
 
 /// A piece: what it makes of the connection, and the events that it gives.

@@ -1,5 +1,5 @@
 //! A connection.
-ghost use Rattle.std.specs.Prelude.{◌≡◌, ◌++◌, [], OnOk, OnErr, IfOk, IsErr};
+ghost use Rattle.std.specs.Prelude.{◌≡◌, ◌++◌, [], None, OnOk, OnErr, IfOk, IsErr};
 ghost use Rattle.h2_streams.specs.declared.stream.Waiting.TheVariants as waitings;
 ghost use Rattle.h2_conn.specs.Bytes.{with_goaway, run, code_of, opening, output_of, without_output, Feeds};
 ghost use Rattle.h2_conn.specs.Sends.{queued_on, sent, headers_sent, data_sent};
@@ -92,7 +92,9 @@ fn queue_open(
 }
 
 /// The connection of a server. A contract sees whether it goes on, and what it is. Where there is no
-/// memory for a call, the connection is lost: each later call finds none either.
+/// memory for a call, the connection is lost: each later call finds none either. One that a breach has
+/// ended asks for no memory. What it keeps has limits (`laws::always_bounded`), but for the bytes that
+/// are to be sent: they grow until they are taken.
 #[derive(Drop)]
 pub struct Conn {
     phase: Phase,
@@ -120,7 +122,9 @@ impl Conn {
 
     /// The next bytes of the peer: the events of all bytes so far less those given before, however
     /// the bytes are cut, and the code of the first breach of a connection rule. After a breach the
-    /// code is answered again, and no event; GOAWAY is the last of what is to be sent.
+    /// code is answered again, and no event; GOAWAY is the last of what is to be sent. A frame that is
+    /// whole in a piece is read where it stands, and one that comes in pieces is gathered. Beside that
+    /// the payload of DATA is copied once, and where it was gathered without padding not at all.
     pub fn feed(
         &mut self,
         alloc: Global,
@@ -151,7 +155,9 @@ impl Conn {
         end_stream: bool,
     ) -> Result<(), NoMemory>
         ensures ok { OnOk result (self.new ≡ sent stream waiting end_stream self.old) }
+        ensures found { OnOk result (¬ (self.old ≡ phases.OutOfMemory)) }
         ensures err { OnErr result (self.new ≡ phases.OutOfMemory) }
+        ensures goes_on { OnErr result (code_of self.old ≡ None) }
     {
         match std::mem::replace(&mut self.phase, Phase::OutOfMemory) {
             Phase::Open(state) => {
@@ -178,8 +184,13 @@ impl Conn {
         end_stream: bool,
     ) -> Result<(), NoMemory>
         ensures ok { OnOk result (self.new ≡ headers_sent stream headers.now end_stream self.old) }
+        ensures found { OnOk result (¬ (self.old ≡ phases.OutOfMemory)) }
         ensures err { OnErr result (self.new ≡ phases.OutOfMemory) }
+        ensures goes_on { OnErr result (code_of self.old ≡ None) }
     {
+        if let Phase::Broken { .. } = &self.phase {
+            return Ok(());
+        }
         let Ok(block) = encode(alloc, headers) else {
             self.phase = Phase::OutOfMemory;
             return Err(NoMemory);
@@ -197,12 +208,15 @@ impl Conn {
     /// nothing is sent, nor after a breach.
     pub fn send_data(&mut self, alloc: Global, stream: u32, bytes: ByteList) -> Result<(), NoMemory>
         ensures ok { OnOk result (self.new ≡ data_sent stream bytes self.old) }
+        ensures found { OnOk result (¬ (self.old ≡ phases.OutOfMemory)) }
         ensures err { OnErr result (self.new ≡ phases.OutOfMemory) }
+        ensures goes_on { OnErr result (code_of self.old ≡ None) }
     {
         self.send(alloc, stream, Waiting::Data(Message::new(bytes)), false)
     }
 
-    /// Takes the bytes that are to be sent.
+    /// Takes the bytes that are to be sent. They are kept until then, so they should be taken behind
+    /// each call.
     pub fn take_output(&mut self, alloc: Global) -> ByteList
         ensures taken { result ≡ output_of self.old }
         ensures left { self.new ≡ without_output self.old }

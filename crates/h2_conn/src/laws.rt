@@ -1,5 +1,6 @@
 //! Laws of a connection, each the contract of a function that does nothing.
 ghost use Rattle.h2_conn.specs.Bytes.{AnyCut};
+ghost use Rattle.h2_conn.specs.Bounds.{AlwaysBounded};
 ghost use Rattle.h2_conn.specs.History.{AnyPieces, WholeFrame, WholeFrames};
 
 /// Cutting bytes in two changes nothing.
@@ -20,4 +21,10 @@ pub fn whole_frame()
 /// The bytes of whole frames do what the frames do one after another, and what is behind them comes after.
 pub fn whole_frames()
     ensures { WholeFrames }
+{}
+
+/// What a connection keeps has limits, whatever happens to it; and of what it was given to send, no
+/// more waits.
+pub fn always_bounded()
+    ensures { AlwaysBounded }
 {}

@@ -14,6 +14,7 @@ mod phase;
 mod placing;
 mod settings;
 mod state;
+mod unread;
 
 pub use breach::Breach;
 pub use conn::Conn;
@@ -21,3 +22,4 @@ pub use decoder::BlockDecoder;
 pub use event::{Given, H2Event};
 pub use phase::Phase;
 pub use state::{HeaderBlock, Skipped, State};
+pub use unread::Unread;

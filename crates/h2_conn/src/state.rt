@@ -3,6 +3,7 @@ ghost use Rattle.std.specs.Prelude.{◌≡◌};
 ghost use Rattle.h2_conn.specs.Frames.{fresh_state};
 
 use crate::decoder::BlockDecoder;
+use crate::unread::Unread;
 use h2_streams::{Outgoing, Streams};
 use list_types::{ByteList, List};
 use std::alloc::Global;
@@ -26,7 +27,7 @@ pub struct Skipped {
 #[derive(Drop)]
 pub struct State {
     /// What has come since the last whole frame.
-    pub unread: ByteList,
+    pub unread: Unread,
     /// The preface is whole.
     pub greeted: bool,
     /// SETTINGS have come.
@@ -47,7 +48,7 @@ impl State {
         ensures { result ≡ fresh_state }
     {
         State {
-            unread: ByteList::new(alloc),
+            unread: Unread::new(alloc),
             greeted: false,
             settled: false,
             block: None,

@@ -1,7 +1,8 @@
 //! Reading the payload of a frame by its head.
-ghost use Rattle.std.specs.Prelude.{◌≡◌, ◌+◌, ◌*◌, ◌/◌, ◌%◌, ◌^◌, ◌<◌, ◌≤◌, length, Ok, IfOk};
+ghost use Rattle.std.specs.Prelude.{◌≡◌, ◌+◌, ◌*◌, ◌/◌, ◌%◌, ◌^◌, ◌<◌, ◌≤◌, length, false, Ok, IfOk};
 ghost use Rattle.std.specs.List.{list_any};
 ghost use Rattle.h2_frames.specs.Reading.{Gives, GivesExactly, has, number_at, low_31_at, unpadded, priority_at, setting_at, settings_in, unknown_at, breaks_protocol, breaks_flow_control, checked, data_at, headers_at, priority_frame_at, rst_stream_at, settings_at, push_promise_at, ping_at, goaway_at, window_update_at, continuation_at, frame_at};
+ghost use Rattle.h2_frames.specs.Codes.{padded_flag};
 ghost use Rattle.h2_frames.specs.Layout.{payload_of};
 ghost use Rattle.h2_frames.specs.Laws.{NumbersFit};
 
@@ -367,4 +368,32 @@ pub fn read_payload(alloc: Global, head: &Head, bytes: &[u8]) -> Result<Frame, F
     ensures short { head.now.stream < 2 ^ 31 → IfOk result (λ frame. length (payload_of frame) ≤ length bytes.now) }
 {
     frame(alloc, head, bytes)
+}
+
+// DATA without padding, whose payload is its data.
+#[tactic(auto, unfolding(crate::specs::Reading::data_at, crate::specs::Reading::unpadded))]
+fn gathered_data(head: &Head, bytes: ByteList) -> Result<Frame, H2Code>
+    requires { has head.now.flags padded_flag ≡ false }
+    ensures { GivesExactly (λ x. x) result (data_at head.now bytes) }
+{
+    if head.stream == 0 {
+        return Err(H2Code::ProtocolError);
+    }
+    Ok(Frame::Data {
+        stream: head.stream,
+        end_stream: has(head.flags, END_STREAM),
+        data: bytes,
+    })
+}
+
+/// The same of a payload that its caller gives away. DATA without padding is not copied.
+#[tactic(auto, unfolding(crate::specs::Reading::frame_at))]
+pub fn read_gathered(alloc: Global, head: &Head, bytes: ByteList) -> Result<Frame, FrameError>
+    requires whole { length bytes ≡ head.now.length }
+    ensures { Gives (λ x. x) result (frame_at head.now bytes) }
+{
+    if head.kind == 0 && !has(head.flags, PADDED) {
+        return Ok(gathered_data(head, bytes)?);
+    }
+    frame(alloc, head, bytes.as_slice())
 }

@@ -53,13 +53,13 @@ complete (statuses.NotATape place) start old new ends holds reads writes =
     let read = ends.«because».1 in absurd (not_refused old.left new.left _ _ (faults.Bad place) holds reads read.taken read.from.consumed read.answers)
 complete statuses.WordsRefused start old new ends holds reads writes = absurd ends
 complete statuses.NoMemory start old new ends holds reads writes = inr refl
-complete statuses.ReadFault start old new ends holds reads writes = absurd (reads ends.«because»)
+complete statuses.ReadFault start old new ends holds reads writes = absurd (reads ends.«because».0)
 complete statuses.WriteFault start old new ends holds reads writes = absurd (writes ends.fault)
 complete statuses.TooLong start old new ends holds reads writes =
     let read = ends.«because».1 in absurd (not_refused old.left new.left _ _ faults.TooLong holds reads read.taken read.from.consumed read.answers)
 complete statuses.Refused start old new ends holds reads writes = absurd ends
 
-past_within : (bytes taken : List ℕ) → length taken ≤ length bytes → length bytes ≤ 67108864 → 67108864 < length taken → ⊥
+past_within : (bytes taken : List ℕ) → length taken ≤ length bytes → length bytes ≤ 67108864 → EndsWithin AtLimit taken → ⊥
 past_within bytes taken within size past = omega (arith, within, size, past)
 
 -- the same of a check
@@ -69,9 +69,9 @@ checked statuses.Done old new ends holds reads writes = inl refl
 checked (statuses.NotATape place) old new ends holds reads writes = absurd ends
 checked statuses.WordsRefused old new ends holds reads writes = absurd ends
 checked statuses.NoMemory old new ends holds reads writes = inr (inl refl)
-checked statuses.ReadFault old new ends holds reads writes = absurd (reads ends.«because»)
+checked statuses.ReadFault old new ends holds reads writes = absurd (reads ends.«because».so)
 checked statuses.WriteFault old new ends holds reads writes = absurd (writes ends.fault)
 checked statuses.TooLong old new ends holds reads writes =
     let P : Option (List ℕ) → Type 0 = λ l. Consumes l new.left ends.«because».taken in
-    absurd (past_within holds.bytes ends.«because».taken (taken_within holds.bytes new.left ends.«because».taken (subst P holds.left_is ends.«because».consumed)) holds.size ends.«because».past)
+    absurd (past_within holds.bytes ends.«because».taken (taken_within holds.bytes new.left ends.«because».taken (subst P holds.left_is ends.«because».consumed)) holds.size ends.«because».within)
 checked statuses.Refused old new ends holds reads writes = inr (inr refl)

@@ -1,16 +1,19 @@
 -- What the exit status of a run says, from what its job says of its answer.
-use Rattle.std.proofs.Common.{◌≡◌, ◌≢◌, ℕ, ◌≤◌, List, Option, None, Some, refl, ap, ◌∙◌, sym, subst, ◌⊎◌, inl, inr, arith}
+use Rattle.std.proofs.Common.{◌≡◌, ◌≢◌, ℕ, ◌<◌, ◌≤◌, List, length, Option, None, Some, refl, ap, ◌∙◌, sym, subst, ◌⊎◌, inl, inr, arith}
 use Rattle.sw_edge.specs.Counts.{Rose}
 use Rattle.sw_edge.specs.Told.{Keeps}
 use Rattle.p4_types.specs.declared.events.Start.{Start}
-use Rattle.tape_form.specs.TapeRead.{IsTooLong}
+use Rattle.tape_form.specs.TapeRead.{EndsWithin, IsTooLong}
+use Rattle.tape_form.specs.declared.fault.Ended.TheVariants.{AtFault, AtLimit}
+use Rattle.tape_form.specs.declared.fault.TapeFault.TheVariants as faults
+use Rattle.tape_form.specs.declared.limits.TheConstants.{MAX_TAPE}
 use Rattle.p4switch_run.specs.declared.status.Status.{Status}
 use Rattle.p4switch_run.specs.declared.status.Status.TheVariants as statuses
 use Rattle.p4switch_run.specs.declared.words.Job.{Job}
 use Rattle.p4switch_run.specs.declared.words.Job.TheVariants as jobs
 use Rattle.p4switch_run.specs.Command.{IsReplay, IsCheck, IsCommand, status_number}
 use Rattle.p4switch_run.specs.Replay.{Streams}
-use Rattle.p4switch_run.specs.Run.{EndsBy, Reports, Breaks, Approves, BreaksLine, Rejects, Lines, IsTold, NamesPlace, HoldsTape, HoldsBytes}
+use Rattle.p4switch_run.specs.Run.{EndsBy, Reports, Breaks, Approves, BreaksLine, IsUnread, Misreads, Stops, Rejects, Lines, IsTold, NamesPlace, HoldsTape, HoldsBytes}
 use Rattle.p4switch_run.specs.Words.{command_of, built}
 use Rattle.p4switch_run.proofs.Completeness as completeness
 
@@ -42,7 +45,7 @@ read_fault (Some (jobs.Replay start)) statuses.Done words old new is ends e = ab
 read_fault (Some (jobs.Replay start)) (statuses.NotATape place) words old new is ends e = absurd (omega (arith, e))
 read_fault (Some (jobs.Replay start)) statuses.WordsRefused words old new is ends e = absurd (omega (arith, e))
 read_fault (Some (jobs.Replay start)) statuses.NoMemory words old new is ends e = absurd (omega (arith, e))
-read_fault (Some (jobs.Replay start)) statuses.ReadFault words old new is ends e = ends.«because»
+read_fault (Some (jobs.Replay start)) statuses.ReadFault words old new is ends e = ends.«because».0
 read_fault (Some (jobs.Replay start)) statuses.WriteFault words old new is ends e = absurd (omega (arith, e))
 read_fault (Some (jobs.Replay start)) statuses.TooLong words old new is ends e = absurd (omega (arith, e))
 read_fault (Some (jobs.Replay start)) statuses.Refused words old new is ends e = absurd (omega (arith, e))
@@ -50,7 +53,7 @@ read_fault (Some jobs.Check) statuses.Done words old new is ends e = absurd (ome
 read_fault (Some jobs.Check) (statuses.NotATape place) words old new is ends e = absurd (omega (arith, e))
 read_fault (Some jobs.Check) statuses.WordsRefused words old new is ends e = absurd (omega (arith, e))
 read_fault (Some jobs.Check) statuses.NoMemory words old new is ends e = absurd (omega (arith, e))
-read_fault (Some jobs.Check) statuses.ReadFault words old new is ends e = ends.«because»
+read_fault (Some jobs.Check) statuses.ReadFault words old new is ends e = ends.«because».so
 read_fault (Some jobs.Check) statuses.WriteFault words old new is ends e = absurd (omega (arith, e))
 read_fault (Some jobs.Check) statuses.TooLong words old new is ends e = absurd (omega (arith, e))
 read_fault (Some jobs.Check) statuses.Refused words old new is ends e = absurd (omega (arith, e))
@@ -74,6 +77,9 @@ write_fault (Some jobs.Check) statuses.WriteFault words old new is ends e = inr 
 write_fault (Some jobs.Check) statuses.TooLong words old new is ends e = absurd (omega (arith, e))
 write_fault (Some jobs.Check) statuses.Refused words old new is ends e = absurd (omega (arith, e))
 
+past_limit : (taken : List ℕ) → EndsWithin AtLimit taken → MAX_TAPE < length taken
+past_limit taken within = omega (arith, within)
+
 pub too_long : (o : Option Job) (status : Status) (words : List (List ℕ)) (old new : Streams) → built (command_of words) ≡ o → EndsBy o status old new → status_number status ≡ 6 → IsTooLong old.left new.left
 too_long None status words old new is ends e = absurd (unlike 6 status ends.0 e (λ x. omega (arith, x)))
 too_long (Some (jobs.Replay start)) statuses.Done words old new is ends e = absurd (omega (arith, e))
@@ -90,7 +96,7 @@ too_long (Some jobs.Check) statuses.WordsRefused words old new is ends e = absur
 too_long (Some jobs.Check) statuses.NoMemory words old new is ends e = absurd (omega (arith, e))
 too_long (Some jobs.Check) statuses.ReadFault words old new is ends e = absurd (omega (arith, e))
 too_long (Some jobs.Check) statuses.WriteFault words old new is ends e = absurd (omega (arith, e))
-too_long (Some jobs.Check) statuses.TooLong words old new is ends e = record { taken = ends.«because».taken; consumed = ends.«because».consumed; past = inl ends.«because».past }
+too_long (Some jobs.Check) statuses.TooLong words old new is ends e = record { taken = ends.«because».taken; consumed = ends.«because».consumed; past = inl (past_limit ends.«because».taken ends.«because».within) }
 too_long (Some jobs.Check) statuses.Refused words old new is ends e = absurd (omega (arith, e))
 
 pub flawed : (o : Option Job) (status : Status) (words : List (List ℕ)) (old new : Streams) → built (command_of words) ≡ o → EndsBy o status old new → status_number status ≡ 8 → Rejects words old new
@@ -179,6 +185,57 @@ nothing (Some jobs.Check) statuses.ReadFault old new ends a b c = ends.kept
 nothing (Some jobs.Check) statuses.WriteFault old new ends a b c = absurd (b refl)
 nothing (Some jobs.Check) statuses.TooLong old new ends a b c = ends.kept
 nothing (Some jobs.Check) statuses.Refused old new ends a b c = absurd (c refl)
+
+-- a status of what was read whole, or not begun to be read
+abbrev IsOther : ℕ → Type 0
+IsOther n = (n ≢ 1) × ((n ≢ 4) × (n ≢ 6))
+
+not_both : (n : ℕ) → IsUnread n → IsOther n → ⊥
+not_both n (inl a) other = other.0 a
+not_both n (inr (inl b)) other = other.1.0 b
+not_both n (inr (inr c)) other = other.1.1 c
+
+other_number : (n : ℕ) → (n ≡ 0) ⊎ ((n ≡ 2) ⊎ ((n ≡ 3) ⊎ ((n ≡ 5) ⊎ (n ≡ 8)))) → IsOther n
+other_number n h = (λ e. omega (arith, h, e), (λ e. omega (arith, h, e), λ e. omega (arith, h, e)))
+
+pub first : (o : Option Job) (status : Status) (words : List (List ℕ)) (old new : Streams) → built (command_of words) ≡ o → EndsBy o status old new → IsUnread (status_number status)
+    → Misreads (status_number status) words old new ⊎ Stops (status_number status) words old new
+first None status words old new is ends u = absurd (not_both (status_number status) u (other_number (status_number status) (inr (inl (ap status_number ends.0)))))
+first (Some (jobs.Replay start)) statuses.Done words old new is ends u = absurd (not_both 0 u (other_number 0 (inl refl)))
+first (Some (jobs.Replay start)) (statuses.NotATape place) words old new is ends u = inl (record { start = start; command = is; fault = (faults.Bad place); number_is = refl; read = ends.«because».1 })
+first (Some (jobs.Replay start)) statuses.WordsRefused words old new is ends u = absurd (not_both 2 u (other_number 2 (inr (inl refl))))
+first (Some (jobs.Replay start)) statuses.NoMemory words old new is ends u = absurd (not_both 3 u (other_number 3 (inr (inr (inl refl)))))
+first (Some (jobs.Replay start)) statuses.ReadFault words old new is ends u = inl (record { start = start; command = is; fault = faults.Fault; number_is = refl; read = ends.«because».1 })
+first (Some (jobs.Replay start)) statuses.WriteFault words old new is ends u = absurd (not_both 5 u (other_number 5 (inr (inr (inr (inl refl))))))
+first (Some (jobs.Replay start)) statuses.TooLong words old new is ends u = inl (record { start = start; command = is; fault = faults.TooLong; number_is = refl; read = ends.«because».1 })
+first (Some (jobs.Replay start)) statuses.Refused words old new is ends u = absurd (not_both 8 u (other_number 8 (inr (inr (inr (inr refl))))))
+first (Some jobs.Check) statuses.Done words old new is ends u = absurd (not_both 0 u (other_number 0 (inl refl)))
+first (Some jobs.Check) (statuses.NotATape place) words old new is ends u = absurd ends
+first (Some jobs.Check) statuses.WordsRefused words old new is ends u = absurd (not_both 2 u (other_number 2 (inr (inl refl))))
+first (Some jobs.Check) statuses.NoMemory words old new is ends u = absurd (not_both 3 u (other_number 3 (inr (inr (inl refl)))))
+first (Some jobs.Check) statuses.ReadFault words old new is ends u = inr (record { command = is; ended = AtFault; status = statuses.ReadFault; ended_is = refl; number_is = refl; read = ends.«because» })
+first (Some jobs.Check) statuses.WriteFault words old new is ends u = absurd (not_both 5 u (other_number 5 (inr (inr (inr (inl refl))))))
+first (Some jobs.Check) statuses.TooLong words old new is ends u = inr (record { command = is; ended = AtLimit; status = statuses.TooLong; ended_is = refl; number_is = refl; read = ends.«because» })
+first (Some jobs.Check) statuses.Refused words old new is ends u = absurd (not_both 8 u (other_number 8 (inr (inr (inr (inr refl))))))
+
+pub sound_sink : (o : Option Job) (status : Status) (old new : Streams) → EndsBy o status old new → status_number status ≢ 5 → new.write_faults ≡ old.write_faults
+sound_sink None status old new ends not = ap (λ (x : Streams). x.write_faults) ends.1
+sound_sink (Some (jobs.Replay start)) statuses.Done old new ends not = ends.sound_sink
+sound_sink (Some (jobs.Replay start)) (statuses.NotATape place) old new ends not = ends.sound_sink
+sound_sink (Some (jobs.Replay start)) statuses.WordsRefused old new ends not = absurd ends
+sound_sink (Some (jobs.Replay start)) statuses.NoMemory old new ends not = ends.sound_sink
+sound_sink (Some (jobs.Replay start)) statuses.ReadFault old new ends not = ends.sound_sink
+sound_sink (Some (jobs.Replay start)) statuses.WriteFault old new ends not = absurd (not refl)
+sound_sink (Some (jobs.Replay start)) statuses.TooLong old new ends not = ends.sound_sink
+sound_sink (Some (jobs.Replay start)) statuses.Refused old new ends not = absurd ends
+sound_sink (Some jobs.Check) statuses.Done old new ends not = ends.sound_sink
+sound_sink (Some jobs.Check) (statuses.NotATape place) old new ends not = absurd ends
+sound_sink (Some jobs.Check) statuses.WordsRefused old new ends not = absurd ends
+sound_sink (Some jobs.Check) statuses.NoMemory old new ends not = ends.sound_sink
+sound_sink (Some jobs.Check) statuses.ReadFault old new ends not = ends.sound_sink
+sound_sink (Some jobs.Check) statuses.WriteFault old new ends not = absurd (not refl)
+sound_sink (Some jobs.Check) statuses.TooLong old new ends not = ends.sound_sink
+sound_sink (Some jobs.Check) statuses.Refused old new ends not = ends.judged.sound_sink
 
 numbers : (status : Status) → (status_number status ≤ 8) × (status_number status ≢ 7)
 numbers statuses.Done = (omega arith, λ e. omega (arith, e))

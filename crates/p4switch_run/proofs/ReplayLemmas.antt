@@ -9,7 +9,12 @@ use Rattle.run_spec.specs.Tape.{no_lanes, NameMade}
 use Rattle.run_spec.proofs.Fitting.{played_is_report}
 use Rattle.run_spec.proofs.Standing.{names_of}
 use Rattle.tape_form.specs.TapeRead.{IsWholeTape}
-use Rattle.p4switch_run.specs.Replay.{IsReplayed, IsTextOf}
+use Rattle.tape_form.specs.declared.fault.TapeFault.{TapeFault}
+use Rattle.tape_form.specs.declared.fault.TapeFault.TheVariants as faults
+use Rattle.tape_form.proofs.Judging.{bad_at, too_long, fault_rose}
+use Rattle.sw_edge.specs.Told.{Keeps}
+use Rattle.p4switch_run.specs.Command.{fault_status}
+use Rattle.p4switch_run.specs.Replay.{Streams, ReadWith, Answers, IsReplayed, IsTextOf}
 
 -- the report of a run of some turns of the records
 text_report : (start : Start) (turns : List Turn) (records : List TapeRecord) (text : List ℕ) → NameMade no_lanes records → items_of turns ≡ records → text ≡ report_text (played_report (played start turns))
@@ -18,6 +23,13 @@ text_report start turns records text names items_are is =
     let P : List ℕ → Type 0 = λ t. IsLockstepReport start (items_of turns) t in
     let Q : List TapeRecord → Type 0 = λ r. IsLockstepReport start r text in
     subst Q items_are (subst P (sym is) (played_is_report start turns (subst (λ (items : List TapeRecord). NameMade no_lanes items) (sym items_are) names)))
+
+-- a tape that is not read is answered by its fault, and nothing is written
+pub not_read : (start : Start) (fault : TapeFault) (old new : Streams) → Keeps old.sent new.sent → new.write_faults ≡ old.write_faults → ReadWith fault old new → Answers start (fault_status fault) old new
+not_read start (faults.Bad place) old new kept sound read = record { kept = kept; sound_sink = sound; «because» = (bad_at old.left new.left old.read_faults new.read_faults place read, read) }
+not_read start faults.TooLong old new kept sound read = record { kept = kept; sound_sink = sound; «because» = (too_long old.left new.left old.read_faults new.read_faults read, read) }
+not_read start faults.Fault old new kept sound read = record { kept = kept; sound_sink = sound; «because» = (fault_rose old.left new.left old.read_faults new.read_faults read, read) }
+not_read start faults.NoMemory old new kept sound read = record { kept = kept; sound_sink = sound; «because» = tt }
 
 -- the text of a run is the report of the tape
 pub replayed : (start : Start) (old new : Option (List ℕ)) (records all : List TapeRecord) (text : List ℕ) → IsWholeTape old new records → all ≡ records → IsTextOf start all text

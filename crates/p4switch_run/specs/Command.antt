@@ -2,6 +2,8 @@
 use Rattle.std.specs.Prelude.{◌≡◌, ℕ, List, [], ◌++◌, Some, codes}
 use Rattle.std.specs.Fmt.{decimal}
 use Rattle.p4_types.specs.declared.events.Start.{Start}
+use Rattle.tape_form.specs.declared.fault.TapeFault.{TapeFault}
+use Rattle.tape_form.specs.declared.fault.TapeFault.TheVariants as faults
 use Rattle.p4switch_run.specs.declared.status.Status.{Status}
 use Rattle.p4switch_run.specs.declared.status.Status.TheVariants as statuses
 use Rattle.p4switch_run.specs.declared.words.Job.{Job}
@@ -30,6 +32,13 @@ status_number statuses.ReadFault = 4
 status_number statuses.WriteFault = 5
 status_number statuses.TooLong = 6
 status_number statuses.Refused = 8
+
+-- how a run ends whose tape was not read
+abbrev pub fault_status : TapeFault → Status
+fault_status (faults.Bad place) = statuses.NotATape place
+fault_status faults.TooLong = statuses.TooLong
+fault_status faults.Fault = statuses.ReadFault
+fault_status faults.NoMemory = statuses.NoMemory
 
 -- what is said of it, if anything
 abbrev pub status_line : Status → List ℕ

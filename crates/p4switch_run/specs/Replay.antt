@@ -30,35 +30,40 @@ pub record IsReplayed (start : Start) (old new : Option (List ℕ)) (text : List
   pub whole : IsWholeTape old new records
   pub report : IsLockstepReport start records text
 
--- the report was written
+-- the report was written, and neither the source nor the sink has failed
 pub record IsWritten (start : Start) (old new : Streams) : Type 0 where
   pub text : List ℕ
   pub replayed : IsReplayed start old.left new.left text
   pub written : Appends old.sent new.sent text
+  pub sound_source : new.read_faults ≡ old.read_faults
+  pub sound_sink : new.write_faults ≡ old.write_faults
 
--- some first bytes of the report were written, since the sink failed
+-- some first bytes of the report were written, since the sink failed, and the source has not
 pub record IsCutShort (start : Start) (old new : Streams) : Type 0 where
   pub text : List ℕ
   pub replayed : IsReplayed start old.left new.left text
   pub written : AppendsPrefix old.sent new.sent text
+  pub sound_source : new.read_faults ≡ old.read_faults
   pub fault : Rose old.write_faults new.write_faults
 
 -- the reading of a tape from the source was answered so
 abbrev pub ReadWith : faults.the_data → Streams → Streams → Type 0
 ReadWith fault old new = IsReadFrom old.left new.left old.read_faults new.read_faults (Err fault)
 
--- nothing was written, for this cause
+-- nothing was written, for this cause, and the sink has not failed
 pub record Nothing (old new : Streams) (cause : Type 0) : Type 0 where
   pub kept : Keeps old.sent new.sent
+  pub sound_sink : new.write_faults ≡ old.write_faults
   pub «because» : cause
 
--- what each answer says; a replay does not refuse words
+-- What each answer says; a replay does not refuse words. A tape that is not read is answered by the first of a bad byte,
+-- a limit and a fault, in the order of the bytes.
 abbrev pub Answers : Start → Status → Streams → Streams → Type 0
 Answers start statuses.Done old new = IsWritten start old new
 Answers start (statuses.NotATape place) old new = Nothing old new (IsBadAt old.left new.left place × ReadWith (faults.Bad place) old new)
 Answers start statuses.WordsRefused old new = ⊥
 Answers start statuses.NoMemory old new = Nothing old new ⊤
-Answers start statuses.ReadFault old new = Nothing old new (Rose old.read_faults new.read_faults)
+Answers start statuses.ReadFault old new = Nothing old new (Rose old.read_faults new.read_faults × ReadWith faults.Fault old new)
 Answers start statuses.WriteFault old new = IsCutShort start old new
 Answers start statuses.TooLong old new = Nothing old new (IsTooLong old.left new.left × ReadWith faults.TooLong old new)
 Answers start statuses.Refused old new = ⊥

@@ -1,18 +1,20 @@
 -- What the exit status of a run says.
-use Rattle.std.specs.Prelude.{◌≡◌, ℕ, ◌≤◌, List, length, Option, None, Some}
+use Rattle.std.specs.Prelude.{◌≡◌, ℕ, ◌≤◌, ◌⊎◌, List, length, Option, None, Some}
 use Rattle.p4_types.specs.declared.events.Start.{Start}
 use Rattle.p4_types.specs.declared.tape.TapeRecord.{TapeRecord}
 use Rattle.sw_edge.specs.declared.answers.Sent.{Sent}
 use Rattle.run_spec.specs.Tape.{IsTape}
 use Rattle.tape_form.specs.TapeRead.{IsBadAt}
+use Rattle.tape_form.specs.declared.fault.Ended.{Ended}
+use Rattle.tape_form.specs.declared.fault.TapeFault.{TapeFault}
 use Rattle.p4switch_run.specs.declared.status.Status.{Status}
 use Rattle.p4switch_run.specs.declared.status.Status.TheVariants as statuses
 use Rattle.p4switch_run.specs.declared.words.Job.{Job}
 use Rattle.p4switch_run.specs.declared.words.Job.TheVariants as jobs
-use Rattle.p4switch_run.specs.Check.{Checks, IsJudged, IsJudgedShort, IsRefused}
-use Rattle.p4switch_run.specs.Command.{IsReplay, IsCheck, status_number, status_line}
+use Rattle.p4switch_run.specs.Check.{Checks, IsJudged, IsJudgedShort, IsRefused, IsTakenUp, ended_status}
+use Rattle.p4switch_run.specs.Command.{IsReplay, IsCheck, status_number, fault_status, status_line}
 use Rattle.p4switch_run.specs.Words.{command_of, built}
-use Rattle.p4switch_run.specs.Replay.{Streams, Answers, IsWritten, IsCutShort}
+use Rattle.p4switch_run.specs.Replay.{Streams, Answers, IsWritten, IsCutShort, ReadWith}
 use Rattle.p4switch_run.specs.Tell.{IsSaid}
 
 -- What a job says of its answer. Without one the words are refused, and all is left as it was.
@@ -46,6 +48,28 @@ pub record Approves (words : List (List ℕ)) (old new : Streams) : Type 0 where
 pub record BreaksLine (words : List (List ℕ)) (old new : Streams) : Type 0 where
   pub command : IsCheck words
   pub short : IsJudgedShort old new
+
+-- the statuses of what was not read whole
+abbrev pub IsUnread : ℕ → Type 0
+IsUnread number = (number ≡ 1) ⊎ ((number ≡ 4) ⊎ (number ≡ 6))
+
+-- The words ask for a replay, the reading of the tape was answered with this fault, and the status is that of it: of a
+-- bad byte, a limit and a fault the first in the order of the bytes.
+pub record Misreads (number : ℕ) (words : List (List ℕ)) (old new : Streams) : Type 0 where
+  pub start : Start
+  pub command : IsReplay start words
+  pub fault : TapeFault
+  pub number_is : number ≡ status_number (fault_status fault)
+  pub read : ReadWith fault old new
+
+-- the words ask for a check, the taking of the configuration ended so, and the status is that of it
+pub record Stops (number : ℕ) (words : List (List ℕ)) (old new : Streams) : Type 0 where
+  pub command : IsCheck words
+  pub ended : Ended
+  pub status : Status
+  pub ended_is : ended_status ended ≡ Some status
+  pub number_is : number ≡ status_number status
+  pub read : IsTakenUp ended old.left new.left old.read_faults new.read_faults
 
 -- the words ask for a check, and it found a rule that is broken
 pub record Rejects (words : List (List ℕ)) (old new : Streams) : Type 0 where

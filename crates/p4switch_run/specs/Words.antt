@@ -83,7 +83,7 @@ start_of s = record { device = unwrap_or s.device 1; cpu = unwrap_or s.cpu 255; 
 abbrev pub replay_of : Settings → Command
 replay_of s = commands.Replay s.lockstep (start_of s)
 
--- serving at a port, which is always given; packets of 9,000 bytes and 2 workers where no option says another
+-- serving at a port, which is always given; packets at UDP port 9,000 and 2 workers where no option says another
 abbrev pub serve_at : Option ℕ → Settings → Option Command
 serve_at None s = None
 serve_at (Some port) s = Some (commands.Serve port (unwrap_or s.packets 9000) (unwrap_or s.workers 2) (start_of s))

@@ -1,6 +1,6 @@
 //! A configuration is read and judged.
-ghost use Rattle.std.specs.Prelude.{◌≡◌, ◌≤◌, IfOk, IfErr, None, string_bytes};
-ghost use Rattle.p4switch_run.specs.Check.{Checks, HasFlaw, Unread, verdict_line, status_of};
+ghost use Rattle.std.specs.Prelude.{◌≡◌, ◌≤◌, IfOk, IfErr, OnOk, None, string_bytes};
+ghost use Rattle.p4switch_run.specs.Check.{Checks, HasFlaw, Unread, ended_status, verdict_line, status_of};
 ghost use Rattle.p4switch_run.specs.Replay.{streams};
 
 use crate::status::Status;
@@ -10,22 +10,33 @@ use std::alloc::{AllocError, Global};
 use sw_edge::{Sent, Sink, Source};
 use tape_form::{Ended, take_bytes};
 
+// How a check ends whose configuration was not taken up to its end.
+fn ended_status(ended: Ended) -> Option<Status>
+    ensures { result ≡ ended_status ended }
+{
+    match ended {
+        Ended::AtEnd => None,
+        Ended::AtFault => Some(Status::ReadFault),
+        Ended::AtLimit => Some(Status::TooLong),
+    }
+}
+
 // The first rule that the configuration breaks which the source gives, if it breaks one.
 fn flaw_from<S: Source>(alloc: Global, source: &mut S) -> Result<Option<ConfigRule>, Status>
     ensures ok { IfOk result (λ flaw. HasFlaw flaw (S.left source.old) (S.left source.new)) }
+    ensures sound { OnOk result (S.faults source.new ≡ S.faults source.old) }
     ensures err { IfErr result (λ status. Unread status (S.left source.old) (S.left source.new) (S.faults source.old) (S.faults source.new)) }
     ensures reads { S.faults source.old ≤ S.faults source.new }
 {
     let Ok((bytes, ended)) = take_bytes(alloc, source) else {
         return Err(Status::NoMemory);
     };
-    match ended {
-        Ended::AtFault => Err(Status::ReadFault),
-        Ended::AtLimit => Err(Status::TooLong),
-        Ended::AtEnd => match config_flaw(alloc, bytes.as_slice()) {
-            Ok(flaw) => Ok(flaw),
-            Err(_) => Err(Status::NoMemory),
-        },
+    if let Some(status) = ended_status(ended) {
+        return Err(status);
+    }
+    match config_flaw(alloc, bytes.as_slice()) {
+        Ok(flaw) => Ok(flaw),
+        Err(_) => Err(Status::NoMemory),
     }
 }
 

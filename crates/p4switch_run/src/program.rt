@@ -6,7 +6,7 @@ ghost use Rattle.tape_form.specs.TapeRead.{IsTooLong};
 ghost use Rattle.p4switch_run.specs.Command.{IsCommand, IsReplay, IsCheck};
 ghost use Rattle.p4_types.specs.declared.events.Start.{Start};
 ghost use Rattle.p4switch_run.specs.Replay.{streams};
-ghost use Rattle.p4switch_run.specs.Run.{Ends, Reports, Breaks, Approves, BreaksLine, Rejects, HoldsTape, HoldsBytes, NamesPlace, SaysStatus, lines};
+ghost use Rattle.p4switch_run.specs.Run.{Ends, Reports, Breaks, Approves, BreaksLine, IsUnread, Misreads, Stops, Rejects, HoldsTape, HoldsBytes, NamesPlace, SaysStatus, lines};
 
 use crate::check::check;
 use crate::replay::replay;
@@ -64,7 +64,8 @@ pub fn run<S: Source, O: Sink, E: Sink, N: Net, K: Clock + Send>(
     // 4: the source failed.
     ensures read_fault { result ≡ 4 → Rose (S.faults tape.old) (S.faults tape.new) }
 
-    // 5: the sink failed, and some first bytes of the report were written.
+    // 5: the sink failed, and some first bytes of the report were written. With any other status it has not failed.
+    ensures no_write_fault { result ≢ 5 → O.faults out.new ≡ O.faults out.old }
     ensures write_fault { result ≡ 5 → (Breaks (map (λ word. word.now) words.now)
         (streams (S.left tape.old) (O.sent out.old) (S.faults tape.old) (O.faults out.old))
         (streams (S.left tape.new) (O.sent out.new) (S.faults tape.new) (O.faults out.new)))
@@ -74,6 +75,14 @@ pub fn run<S: Source, O: Sink, E: Sink, N: Net, K: Clock + Send>(
 
     // 6: there are more bytes or records than a tape may have.
     ensures too_long { result ≡ 6 → IsTooLong (S.left tape.old) (S.left tape.new) }
+
+    // 1, 4 and 6: which of them comes is said by what was taken of the source, and by how the taking ended.
+    ensures first { IsUnread result → (Misreads result (map (λ word. word.now) words.now)
+        (streams (S.left tape.old) (O.sent out.old) (S.faults tape.old) (O.faults out.old))
+        (streams (S.left tape.new) (O.sent out.new) (S.faults tape.new) (O.faults out.new)))
+        ⊎ (Stops result (map (λ word. word.now) words.now)
+        (streams (S.left tape.old) (O.sent out.old) (S.faults tape.old) (O.faults out.old))
+        (streams (S.left tape.new) (O.sent out.new) (S.faults tape.new) (O.faults out.new))) }
 
     // 8: the configuration is read to its end, and the first rule that it breaks is written.
     ensures flawed { result ≡ 8 → Rejects (map (λ word. word.now) words.now)

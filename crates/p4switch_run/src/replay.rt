@@ -11,7 +11,7 @@ use list_types::{ByteList, NoMemory};
 use p4_types::events::Start;
 use std::alloc::Global;
 use sw_edge::{Sent, Sink, Source};
-use tape_form::{Tape, TapeFault, TapeRecord};
+use tape_form::{Tape, TapeRecord};
 
 // The report's text of the run of these records by a session that has begun.
 fn text_by(
@@ -54,10 +54,7 @@ pub fn replay<S: Source, O: Sink>(alloc: Global, start: Start, tape: &mut S, out
 {
     let tape = match Tape::read(alloc, tape) {
         Ok(tape) => tape,
-        Err(TapeFault::Bad(place)) => return Status::NotATape(place),
-        Err(TapeFault::TooLong) => return Status::TooLong,
-        Err(TapeFault::Fault) => return Status::ReadFault,
-        Err(TapeFault::NoMemory) => return Status::NoMemory,
+        Err(fault) => return Status::of_fault(fault),
     };
     let Ok(text) = text_of(alloc, start, tape.records()) else {
         return Status::NoMemory;

@@ -1,6 +1,8 @@
 //! How a run of the program ends.
 ghost use Rattle.std.specs.Prelude.{◌≡◌};
 
+use tape_form::TapeFault;
+
 /// How a run ends, and with which exit status.
 #[derive(Clone, Copy)]
 pub enum Status {
@@ -23,7 +25,19 @@ pub enum Status {
 }
 
 impl Status {
-    ghost use Rattle.p4switch_run.specs.Command.{status_number};
+    ghost use Rattle.p4switch_run.specs.Command.{status_number, fault_status};
+
+    /// How a run ends whose tape was not read.
+    pub fn of_fault(fault: TapeFault) -> Status
+        ensures { result ≡ fault_status fault }
+    {
+        match fault {
+            TapeFault::Bad(place) => Status::NotATape(place),
+            TapeFault::TooLong => Status::TooLong,
+            TapeFault::Fault => Status::ReadFault,
+            TapeFault::NoMemory => Status::NoMemory,
+        }
+    }
 
     pub fn number(self) -> u8
         ensures { result ≡ status_number self }

@@ -1,5 +1,5 @@
 -- A run that follows the tape has each packet of a worker behind the calls that the worker met, where those were made before.
-use Rattle.std.proofs.Common.{◌≡◌, ℕ, zero, suc, ◌+◌, ◌<◌, ◌≤◌, max, Bool, true, false, cond, eqb, List, [], ◌∷◌, ◌++◌, length, map, get_or, refl, ap, ◌∙◌, sym, subst, Option, Some, None, append_assoc, length-append, arith}
+use Rattle.std.proofs.Common.{◌≡◌, ℕ, ◌+◌, ◌≤◌, max, Bool, true, false, cond, eqb, List, [], ◌∷◌, ◌++◌, length, map, get_or, refl, ap, ◌∙◌, sym, subst, Option, Some, None, append_assoc, length-append, arith}
 use Rattle.std.proofs.lemmas.List.Elements.{filter-append}
 use Rattle.std.specs.Prelude.{◌==◌}
 use Rattle.std.specs.List.{AllByRecursion, filter_map, cons_option}
@@ -10,28 +10,18 @@ use Rattle.p4_types.specs.declared.tape.Who.TheVariants.{Worker}
 use Rattle.plane_spec.proofs.Lists.{All-weaken, All-snoc, All-filter}
 use Rattle.switch_spec.specs.History.{Made}
 use Rattle.switch_spec.specs.Counts.{Figures, Arrival, Carried, counted}
-use Rattle.switch_spec.specs.Carrying.{made_on, carried_on, packet_out}
+use Rattle.switch_spec.proofs.Through.{AreBy, numbered_by}
+use Rattle.switch_spec.specs.Carrying.{made_on, carried_on, packet_out, steps_through}
+use Rattle.switch_spec.specs.declared.calls.WorkerItem.{WorkerItem}
+use Rattle.switch_spec.specs.declared.calls.WorkerItem.TheVariants.{Brings, Meets}
 use Rattle.run_spec.specs.Tape.{Lanes, with_call, lanes_after, NameMade}
-use Rattle.run_spec.specs.Report.{WorkerItem, Brings, Meets, item_on, steps_through, IsBehindMeets, carried_after, figures_out, IsFollowed, Lockstep}
+use Rattle.run_spec.specs.Report.{item_on, IsBehindMeets, carried_after, figures_out, IsFollowed, Lockstep}
 use Rattle.run_spec.proofs.Following.{on_by, no_worker}
 use Rattle.run_spec.proofs.Playing.{Rises}
-
--- each call of a journal is after at most so many steps
-abbrev AreBy : ℕ → List Made → Type 0
-AreBy n journal = AllByRecursion (λ (made : Made). made.entry.reply.steps ≤ n) journal
 
 -- at least as many calls of each lane stand in a journal as the tape so far says
 abbrev HasCalls : Lanes → List Made → Type 0
 HasCalls lanes journal = (lane : ℕ) → lanes.calls lane ≤ length (made_on lane journal)
-
-get_by : (front rest : List Made) (k n : ℕ) → AreBy n front → k < length front → get_or (map (λ (made : Made). made.entry.reply.steps) (front ++ rest)) k 0 ≤ n
-get_by [] rest k n h lt = absurd (omega arith)
-get_by (made ∷ front) rest zero n h lt = h.0
-get_by (made ∷ front) rest (suc k) n h lt = get_by front rest k n h.1 (omega arith)
-
-numbered_by : (front rest : List Made) (call n : ℕ) → AreBy n front → call ≤ length front → get_or (0 ∷ map (λ (made : Made). made.entry.reply.steps) (front ++ rest)) call 0 ≤ n
-numbered_by front rest zero n h le = omega arith
-numbered_by front rest (suc k) n h le = get_by front rest k n h (omega arith)
 
 -- the steps through a call that was made are at most those so far
 through_by : (controller call n : ℕ) (before journal whole : List Made) → whole ≡ before ++ journal → AreBy n before → call ≤ length (made_on controller before) → steps_through controller call whole ≤ n
@@ -60,10 +50,10 @@ by_more n before made by le =
     (All-weaken (λ (m : Made). m.entry.reply.steps ≤ n) (λ (m : Made). m.entry.reply.steps ≤ made.entry.reply.steps) (λ m h. omega (arith, h, le)) before by) (omega arith)
 
 -- a packet of this lane or of another
-one_packet : (t : Bool) (whole : List Made) (least : ℕ) (arrival : Arrival) (items : List WorkerItem) (first : Carried) (records : List Carried) → least ≤ first.outcome.steps → IsBehindMeets whole least items records
-    → IsBehindMeets whole least (cons_option (cond t (Some (Brings arrival)) None) items) (cond t (first ∷ records) records)
-one_packet true whole least arrival items first records le rest = (le, rest)
-one_packet false whole least arrival items first records le rest = rest
+one_packet : (t : Bool) (whole : List Made) (least port : ℕ) (packet : List ℕ) (items : List WorkerItem) (first : Carried) (records : List Carried) → least ≤ first.outcome.steps → IsBehindMeets whole least items records
+    → IsBehindMeets whole least (cons_option (cond t (Some (Brings port packet)) None) items) (cond t (first ∷ records) records)
+one_packet true whole least port packet items first records le rest = (le, rest)
+one_packet false whole least port packet items first records le rest = rest
 
 -- a meet of this lane or of another
 one_meet : (t : Bool) (whole : List Made) (least controller call : ℕ) (items : List WorkerItem) (records : List Carried) → IsBehindMeets whole (max least (steps_through controller call whole)) items records
@@ -111,9 +101,9 @@ meets_follow start lane n g (Leave other ∷ tape) (made ∷ journal) records le
     (record { has_calls = next.has_calls; by = next.by; rises = next.rises; whole_is = next.whole_is; reached = next.reached }))
 meets_follow start lane n g (Packet other port packet ∷ tape) journal [] least lanes before whole h names b = absurd h
 meets_follow start lane n g (Packet other port packet ∷ tape) journal (carried ∷ records) least lanes before whole h names b =
-    let P : List Carried → Type 0 = λ r. IsBehindMeets whole least (cons_option (cond (eqb lane other) (Some (Brings (port, packet))) None) (filter_map (item_on lane) tape)) r in
+    let P : List Carried → Type 0 = λ r. IsBehindMeets whole least (cons_option (cond (eqb lane other) (Some (Brings port packet)) None) (filter_map (item_on lane) tape)) r in
     subst P (sym (on_by (Worker lane) (Worker other) carried records h.0))
-    (one_packet (eqb lane other) whole least (port, packet) (filter_map (item_on lane) tape) carried (carried_on (Worker lane) records) (omega (arith, h.2, b.reached))
+    (one_packet (eqb lane other) whole least port packet (filter_map (item_on lane) tape) carried (carried_on (Worker lane) records) (omega (arith, h.2, b.reached))
     (meets_follow start lane n (counted g carried) tape journal records least lanes before whole h.3 names.1 b))
 meets_follow start lane n g (Meet other controller call ∷ tape) journal records least lanes before whole h names b =
     let through : steps_through controller call whole ≤ n = through_by controller call n before journal whole b.whole_is b.by (omega (arith, names.0, b.has_calls controller)) in

@@ -1,5 +1,5 @@
 -- What it is for a text to be the report of a tape (this project's profile).
-use Rattle.std.specs.Prelude.{◌≡◌, ℕ, ◌+◌, ◌≤◌, ◌==◌, max, List, [], ◌∷◌, ◌++◌, length, map, get_or, filter, count_by, false, if◌then◌else◌, Option, Some, None, option_map, is_some}
+use Rattle.std.specs.Prelude.{◌≡◌, ℕ, ◌+◌, ◌≤◌, ◌==◌, max, List, [], ◌∷◌, ◌++◌, length, map, filter, count_by, false, if◌then◌else◌, Option, Some, None, option_map, is_some}
 use Rattle.std.specs.List.{filter_map, zip, AllByRecursion}
 use Rattle.p4_types.specs.declared.events.Start.{Start}
 use Rattle.p4_types.specs.declared.journal.Report.{Report}
@@ -10,13 +10,15 @@ use Rattle.p4_types.specs.declared.tape.Who.{Who}
 use Rattle.p4_types.specs.declared.tape.Who.TheVariants.{Controller, Worker}
 use Rattle.switch_spec.specs.declared.calls.LaneCall.{LaneCall}
 use Rattle.switch_spec.specs.declared.calls.LaneCall.TheVariants.{Asks, Leaves}
+use Rattle.switch_spec.specs.declared.calls.WorkerItem.{WorkerItem}
+use Rattle.switch_spec.specs.declared.calls.WorkerItem.TheVariants.{Brings, Meets}
 use Rattle.plane_spec.specs.Config.{Event}
 use Rattle.plane_spec.specs.Legal.{Legal}
 use Rattle.plane_spec.specs.Planes.{Control, opened, applied, after}
 use Rattle.switch_spec.specs.Counts.{Figures, Arrival, Carried, no_figures, counted, counts_in, cells_in}
 use Rattle.switch_spec.specs.History.{Made, History, Numbered, published, steps_of, is_refused_for_memory}
 use Rattle.switch_spec.specs.Meaning.{carried}
-use Rattle.switch_spec.specs.Carrying.{made_on, carried_on, packet_out, packets_out, Covers, Fits, InTurn, final}
+use Rattle.switch_spec.specs.Carrying.{made_on, carried_on, packet_out, packets_out, steps_through, Covers, Fits, InTurn, final}
 use Rattle.run_spec.specs.ReportText.{report_text}
 
 -- the call of one controller's lane that a record of the tape is
@@ -33,28 +35,19 @@ packet_on lane (Leave other) = None
 packet_on lane (Packet other port packet) = if lane == other then Some (port, packet) else None
 packet_on lane (Meet other controller call) = None
 
--- what stands on the tape for a worker: a packet that it gets, or a call of a controller's lane that it meets
-pub data WorkerItem : Type 0 where
-  Brings : (arrival : Arrival) → WorkerItem
-  Meets : (controller call : ℕ) → WorkerItem
-
 -- what a record of the tape is for one worker's lane
 abbrev pub item_on : ℕ → TapeRecord → Option WorkerItem
 item_on lane (Call other method message) = None
 item_on lane (Leave other) = None
-item_on lane (Packet other port packet) = if lane == other then Some (Brings (port, packet)) else None
+item_on lane (Packet other port packet) = if lane == other then Some (Brings port packet) else None
 item_on lane (Meet other controller call) = if lane == other then Some (Meets controller call) else None
-
--- the steps through a controller's call of this number, from 1; none where it did not make so many
-abbrev pub steps_through : ℕ → ℕ → List Made → ℕ
-steps_through controller call journal = get_or (0 ∷ map (λ made. made.entry.reply.steps) (made_on controller journal)) call 0
 
 -- Of a worker's packets, each is after at least so many steps, and after at least the steps through each call that it met before.
 abbrev pub IsBehindMeets : List Made → ℕ → List WorkerItem → List Carried → Type 0
 IsBehindMeets journal least [] records = Unit {0}
 IsBehindMeets journal least (Meets controller call ∷ items) records = IsBehindMeets journal (max least (steps_through controller call journal)) items records
-IsBehindMeets journal least (Brings arrival ∷ items) [] = ⊥
-IsBehindMeets journal least (Brings arrival ∷ items) (first ∷ records) = (least ≤ first.outcome.steps) × IsBehindMeets journal least items records
+IsBehindMeets journal least (Brings port packet ∷ items) [] = ⊥
+IsBehindMeets journal least (Brings port packet ∷ items) (first ∷ records) = (least ≤ first.outcome.steps) × IsBehindMeets journal least items records
 
 -- the calls that a lane makes in a run with this journal: those of the tape; none of its lanes brings bytes of a transport
 abbrev pub calls_on : ℕ → List TapeRecord → List Made → List LaneCall

@@ -2,6 +2,7 @@
 #![tactic(auto)]
 
 mod answers;
+mod attempts;
 mod count;
 mod course;
 mod held;

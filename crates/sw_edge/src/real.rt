@@ -1,12 +1,13 @@
 // The standard streams and the clock of the system.
-ghost use Rattle.std.specs.Prelude.{◌≡◌, ◌-◌, ◌^◌, ◌≤◌, ℕ, length, min, take};
-ghost use Rattle.std.specs.Io.{ReadsAtMost};
-ghost use Rattle.std.specs.Io.KnownBytes.{Appends, ReadConsumes};
+ghost use Rattle.std.specs.Prelude.{◌≡◌, ◌-◌, ◌^◌, ◌<◌, ◌≤◌, ℕ, length, min, take};
+ghost use Rattle.std.specs.Io.KnownBytes.{Appends};
+ghost use Rattle.sw_edge.specs.Answers.{Fits, Takes};
 ghost use Rattle.sw_edge.specs.Real.{Metered};
 
+use crate::attempts::{sent_by, taken_by, told_by};
 use crate::count::raise;
 use crate::{Clock, Got, Sent, Sink, Source};
-use std::io::{self, ErrorKind, Read, Write};
+use std::io::{Read, Write};
 use std::marker::Model;
 use std::time;
 
@@ -35,19 +36,20 @@ impl<R> RealSource<R> {
     }
 }
 
-// One read, which is tried again where a signal cut it short.
+// Reads until something is told, and tells a fault where signals cut all tries short.
 #[tactic(auto, using(crate::proofs::RealLaws::tries))]
-fn read_some<R: Read>(reader: &mut R, buf: &mut [u8]) -> io::Result<usize>
-    ensures bound { ReadsAtMost result buf.new }
-    ensures bytes { ReadConsumes (R.remaining reader.old) (R.remaining reader.new) result buf.new }
+fn read_some<R: Read>(reader: &mut R, buf: &mut [u8]) -> Got
+    requires { 0 < length buf.old }
+    ensures fits { Fits result buf.new }
+    ensures takes { Takes (R.remaining reader.old) (R.remaining reader.new) result buf.new }
 {
-    for _ in 1..TRIES {
-        match reader.read(buf) {
-            Err(error) if error.kind() == ErrorKind::Interrupted => {}
-            answer => return answer,
+    for _ in 0..TRIES {
+        let answer = reader.read(buf);
+        if let Some(got) = told_by(&answer) {
+            return got;
         }
     }
-    reader.read(buf)
+    Got::Failed
 }
 
 impl<R: Read> Source for RealSource<R> {
@@ -57,14 +59,11 @@ impl<R: Read> Source for RealSource<R> {
 
     #[tactic(auto, using(crate::proofs::RealLaws::streams))]
     fn read(&mut self, buf: &mut [u8]) -> Got {
-        match read_some(&mut self.reader, buf) {
-            Ok(0) => Got::End,
-            Ok(n) => Got::Bytes(n),
-            Err(_) => {
-                raise(&mut self.faults);
-                Got::Failed
-            }
+        let got = read_some(&mut self.reader, buf);
+        if let Got::Failed = got {
+            raise(&mut self.faults);
         }
+        got
     }
 }
 
@@ -101,11 +100,10 @@ fn write_some<W: Write>(writer: &mut W, bytes: &[u8]) -> usize
         if done == bytes.len() {
             break;
         }
-        match writer.write(&bytes[done..]) {
-            Ok(0) => break,
-            Ok(n) => done += n,
-            Err(error) if error.kind() == ErrorKind::Interrupted => {}
-            Err(_) => break,
+        let answer = writer.write(&bytes[done..]);
+        match taken_by(&answer) {
+            Some(count) => done += count,
+            None => break,
         }
     }
     done
@@ -119,11 +117,12 @@ impl<W: Write> Sink for RealSink<W> {
     #[tactic(auto, using(crate::proofs::RealLaws::streams))]
     fn write(&mut self, bytes: &[u8]) -> Sent {
         let done = write_some(&mut self.writer, bytes);
-        if self.writer.flush().is_err() || done < bytes.len() {
+        let flushed = self.writer.flush();
+        let sent = sent_by(done, bytes.len(), &flushed);
+        if let Sent::Failed = sent {
             raise(&mut self.faults);
-            return Sent::Failed;
         }
-        Sent::All
+        sent
     }
 }
 

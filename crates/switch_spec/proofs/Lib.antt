@@ -1,5 +1,6 @@
 pub mod Answers
-pub mod CpuPort
 pub mod Counters
+pub mod CpuPort
 pub mod Settings
 pub mod Sound
+pub mod Through

@@ -1,5 +1,5 @@
 -- What lanes made and carried: the calls of a journal, and the records of packets beside it (this project's profile).
-use Rattle.std.specs.Prelude.{◌≡◌, ℕ, ◌+◌, ◌≤◌, ◌==◌, Bool, false, List, [], ◌∷◌, ◌++◌, length, filter, count_by, Option, option_map, is_some}
+use Rattle.std.specs.Prelude.{◌≡◌, ℕ, ◌+◌, ◌≤◌, ◌==◌, Bool, false, List, [], ◌∷◌, ◌++◌, length, map, get_or, filter, count_by, Option, option_map, is_some}
 use Rattle.std.specs.List.{filter_map, zip, AllByRecursion}
 use Rattle.p4_types.specs.declared.events.Start.{Start}
 use Rattle.p4_types.specs.declared.records.Record.{Record}
@@ -25,6 +25,10 @@ records_of lane records = filter (λ r. is_who lane r.who) records
 -- the calls that a lane made
 abbrev pub made_on : ℕ → List Made → List Made
 made_on lane journal = filter (λ made. lane == made.entry.lane) journal
+
+-- the steps through a controller's call of this number, from 1; none where it did not make so many
+abbrev pub steps_through : ℕ → ℕ → List Made → ℕ
+steps_through controller call journal = get_or (0 ∷ map (λ made. made.entry.reply.steps) (made_on controller journal)) call 0
 
 -- the packets that a lane carried
 abbrev pub carried_on : Who → List Carried → List Carried

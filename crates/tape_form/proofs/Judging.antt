@@ -1,6 +1,6 @@
 -- What the answer to bytes says of them.
 use Rattle.std.proofs.Common.{◌≡◌, ℕ, zero, suc, ◌-◌, ◌≤◌, ◌<◌, Bool, true, false, cond, eqb, List, length, Option, Result, Ok, Err, refl, sym, ap, subst, ◌∙◌, ◌⊎◌, arith, inl, inr}
-use Rattle.std.specs.Prelude.{IfOk, IsErrOf}
+use Rattle.std.specs.Prelude.{IfOk, OnOk, IsErrOf}
 use Rattle.p4_types.specs.declared.tape.TapeRecord.{TapeRecord}
 use Rattle.sw_edge.specs.Counts.{Rose}
 use Rattle.run_spec.specs.Tape.{IsLongestBeginning}
@@ -11,7 +11,10 @@ use Rattle.tape_form.specs.declared.fault.TapeFault.{TapeFault}
 use Rattle.tape_form.specs.declared.fault.TapeFault.TheVariants as faults
 use Rattle.tape_form.specs.declared.fault.Ended.{Ended}
 use Rattle.tape_form.specs.declared.fault.Ended.TheVariants.{AtEnd, AtFault, AtLimit}
-use Rattle.tape_form.specs.TapeRead.{InLimits, EndsWithin, EndsSo, when_whole, when_short, when_bad, judged, IsReadFrom, IsWholeTape, IsBadAt, IsTooLong}
+use Rattle.tape_form.specs.Parsed.{IsFlaw}
+use Rattle.tape_form.specs.declared.parse.ReadFault.{ReadFault}
+use Rattle.tape_form.specs.declared.parse.ReadFault.TheVariants as read_faults
+use Rattle.tape_form.specs.TapeRead.{InLimits, EndsWithin, EndsSo, EndsSoundly, when_whole, when_short, when_bad, judged, refusal, outcome, UnlessNoMemory, IsReadFrom, IsWholeTape, IsBadAt, IsTooLong}
 
 pub whole_within : (ended : Ended) (bytes : List ℕ) (records : List TapeRecord) → EndsWithin ended bytes → tape_at MAX_RECORDS bytes ≡ Ok records → ended ≡ AtEnd → InLimits records
 whole_within ended bytes records within e end =
@@ -19,8 +22,27 @@ whole_within ended bytes records within e end =
     let size : length bytes ≤ MAX_TAPE = subst (λ (n : Ended). EndsWithin n bytes) end within in
     record { each = r.0.each; count = r.1; size = subst (λ (w : List ℕ). length w ≤ MAX_TAPE) r.0.spelled size }
 
-pub left_within : (bytes : List ℕ) (left : ℕ) → tape_at MAX_RECORDS bytes ≡ Err (Bad left) → left ≤ length bytes
+left_within : (bytes : List ℕ) (left : ℕ) → tape_at MAX_RECORDS bytes ≡ Err (Bad left) → left ≤ length bytes
 left_within bytes left e = (bad_is_exact MAX_RECORDS bytes left e).1
+
+pub flaw_within : (bytes : List ℕ) (fault : ReadFault) → IsFlaw fault (tape_at MAX_RECORDS bytes) → (left : ℕ) → fault ≡ read_faults.Bad left → left ≤ length bytes
+flaw_within bytes read_faults.NoMemory h left e = absurd cc
+flaw_within bytes (read_faults.Bad l) h left e = let same : l ≡ left = cc in left_within bytes left (subst (λ (n : ℕ). tape_at MAX_RECORDS bytes ≡ Err (Bad n)) same h)
+flaw_within bytes (read_faults.TooMany l) h left e = absurd cc
+
+unless : (answer : Result (List TapeRecord) TapeFault) (claim : Type 0) → claim → UnlessNoMemory answer claim
+unless (Ok records) claim h = h
+unless (Err faults.NoMemory) claim h = tt
+unless (Err (faults.Bad place)) claim h = h
+unless (Err faults.TooLong) claim h = h
+unless (Err faults.Fault) claim h = h
+
+-- the answer to a flaw is the outcome
+pub refused : (bytes : List ℕ) (ended : Ended) (fault : ReadFault) (answer : Result (List TapeRecord) TapeFault) → IsFlaw fault (tape_at MAX_RECORDS bytes) → refusal (length bytes) ended fault ≡ answer
+    → UnlessNoMemory answer (outcome bytes ended ≡ answer)
+refused bytes ended read_faults.NoMemory answer h e = subst (λ (a : Result (List TapeRecord) TapeFault). UnlessNoMemory a (outcome bytes ended ≡ a)) e tt
+refused bytes ended (read_faults.Bad left) answer h e = unless answer _ (ap (judged (length bytes) ended) h ∙ e)
+refused bytes ended (read_faults.TooMany left) answer h e = unless answer _ (ap (judged (length bytes) ended) h ∙ e)
 
 -- ---- what each answer comes from
 
@@ -120,6 +142,9 @@ judged_bad taken ended (Err (Bad (suc left))) place e =
 
 -- ---- what the answer to a source says
 
+soundly_at_end : (new : Option (List ℕ)) (before now : ℕ) (ended : Ended) → ended ≡ AtEnd → EndsSoundly ended new before now → EndsSoundly AtEnd new before now
+soundly_at_end new before now ended e soundly = subst (λ (n : Ended). EndsSoundly n new before now) e soundly
+
 read_tape : (old new : Option (List ℕ)) (before now : ℕ) (records : List TapeRecord) → IsReadFrom old new before now (Ok records) → IsWholeTape old new records
 read_tape old new before now records r =
     let o = r.answers in
@@ -137,6 +162,14 @@ read_tape old new before now records r =
 pub whole_tape : (old new : Option (List ℕ)) (before now : ℕ) (answer : Result (List TapeRecord) TapeFault) → IsReadFrom old new before now answer → IfOk answer (λ records. IsWholeTape old new records)
 whole_tape old new before now (Ok records) r = read_tape old new before now records r
 whole_tape old new before now (Err _) r = tt
+
+-- a source of which a tape was read has not failed
+pub whole_sound : (old new : Option (List ℕ)) (before now : ℕ) (answer : Result (List TapeRecord) TapeFault) → IsReadFrom old new before now answer → OnOk answer (now ≡ before)
+whole_sound old new before now (Ok records) r =
+    let o = r.answers in
+    let j = judged_ok (length r.taken) o.ended (tape_at MAX_RECORDS r.taken) records o.same in
+    (soundly_at_end new before now o.ended j.1 o.soundly).1
+whole_sound old new before now (Err _) r = tt
 
 pub bad_at : (old new : Option (List ℕ)) (before now place : ℕ) → IsReadFrom old new before now (Err (faults.Bad place)) → IsBadAt old new place
 bad_at old new before now place r =

@@ -4,11 +4,13 @@ use Rattle.std.proofs.lemmas.List.{nil_from_length, drop_more}
 use Rattle.p4_types.specs.declared.tape.TapeRecord.{TapeRecord}
 use Rattle.wire_fields.specs.Reading.{◌>>=◌}
 use Rattle.run_spec.specs.Tape.{Lanes, no_lanes, lanes_after}
-use Rattle.run_spec.specs.TapeReading.{Flaw, or_bad, item_at, nothing_after, with_first, records_at, text_at}
+use Rattle.run_spec.specs.TapeReading.{Flaw, Bad, or_bad, item_at, nothing_after, with_first, records_at, text_at}
+use Rattle.tape_form.specs.declared.parse.Flaw.{Flaw as Found}
+use Rattle.tape_form.specs.declared.parse.Flaw.TheVariants as found
 use Rattle.tape_form.specs.declared.parse.ReadFault.{ReadFault}
 use Rattle.tape_form.specs.declared.parse.ReadFault.TheVariants as faults
 use Rattle.tape_form.specs.Calls.{lanes_of, AgreeOnCalls}
-use Rattle.tape_form.specs.Parsed.{Fails, IsFlaw}
+use Rattle.tape_form.specs.Parsed.{Fails, IsFlaw, IsFound, fault_of}
 use Rattle.tape_form.proofs.Agreeing.{records_same}
 use Rattle.tape_form.proofs.Callers.{none_counted}
 
@@ -46,16 +48,28 @@ stops (faults.TooMany left) front limit i lanes rest total lt h so_far = absurd 
 at_end : (front : List TapeRecord) (limit i : ℕ) (lanes : Lanes) (rest after : List ℕ) → i < limit → item_at lanes rest ≡ Ok (None, after) → with_front front (records_at (limit - i) lanes rest) ≡ with_front front (nothing_after after)
 at_end front limit i lanes rest after lt h = ap (with_front front) (by_item limit i lanes rest lt ∙ ap (λ (r : Result (Option TapeRecord × List ℕ) ℕ). or_bad r >>= behind (limit - (i + 1)) lanes) h)
 
-pub ends_badly : (e : ReadFault) (front : List TapeRecord) (limit i : ℕ) (lanes : Lanes) (rest after : List ℕ) (total : Result (List TapeRecord) Flaw) → i < limit → item_at lanes rest ≡ Ok (None, after) → IsFlaw e (nothing_after after)
-    → with_front front (records_at (limit - i) lanes rest) ≡ total → IsFlaw e total
-ends_badly faults.NoMemory front limit i lanes rest after total lt h bad so_far = tt
-ends_badly (faults.Bad left) front limit i lanes rest after total lt h bad so_far = sym so_far ∙ at_end front limit i lanes rest after lt h ∙ ap (with_front front) bad
-ends_badly (faults.TooMany left) front limit i lanes rest after total lt h bad so_far = sym so_far ∙ at_end front limit i lanes rest after lt h ∙ ap (with_front front) bad
+pub ends_badly : (left : ℕ) (front : List TapeRecord) (limit i : ℕ) (lanes : Lanes) (rest after : List ℕ) (total : Result (List TapeRecord) Flaw) → i < limit → item_at lanes rest ≡ Ok (None, after) → nothing_after after ≡ Err (Bad left)
+    → with_front front (records_at (limit - i) lanes rest) ≡ total → total ≡ Err (Bad left)
+ends_badly left front limit i lanes rest after total lt h bad so_far = sym so_far ∙ at_end front limit i lanes rest after lt h ∙ ap (with_front front) bad
 
 pub ends : (front : List TapeRecord) (limit i : ℕ) (lanes : Lanes) (rest after : List ℕ) (total : Result (List TapeRecord) Flaw) → i < limit → item_at lanes rest ≡ Ok (None, after) → nothing_after after ≡ Ok []
     → with_front front (records_at (limit - i) lanes rest) ≡ total → total ≡ Ok front
 ends front limit i lanes rest after total lt h good so_far =
     sym so_far ∙ at_end front limit i lanes rest after lt h ∙ ap (with_front front) good ∙ ap (λ (w : List TapeRecord). Ok w) (append-nil front)
+
+none_left : (front : List TapeRecord) (limit i : ℕ) (lanes : Lanes) (rest : List ℕ) → i ≡ limit → with_front front (records_at (limit - i) lanes rest) ≡ with_front front (records_at 0 lanes rest)
+none_left front limit i lanes rest all = let none : limit - i ≡ 0 = omega (arith, all) in ap (λ (n : ℕ). with_front front (records_at n lanes rest)) none
+
+-- behind as many records as there may be
+pub stops_alone : (flaw : Found) (front : List TapeRecord) (limit i : ℕ) (lanes : Lanes) (rest : List ℕ) (total : Result (List TapeRecord) Flaw) → i ≡ limit → IsFound flaw (records_at 0 lanes rest)
+    → with_front front (records_at (limit - i) lanes rest) ≡ total → IsFlaw (fault_of flaw) total
+stops_alone (found.Bad left) front limit i lanes rest total all h so_far = sym so_far ∙ none_left front limit i lanes rest all ∙ ap (with_front front) h
+stops_alone (found.TooMany left) front limit i lanes rest total all h so_far = sym so_far ∙ none_left front limit i lanes rest all ∙ ap (with_front front) h
+
+pub ends_alone : (front : List TapeRecord) (limit i : ℕ) (lanes : Lanes) (rest : List ℕ) (total : Result (List TapeRecord) Flaw) → i ≡ limit → records_at 0 lanes rest ≡ Ok []
+    → with_front front (records_at (limit - i) lanes rest) ≡ total → total ≡ Ok front
+ends_alone front limit i lanes rest total all h so_far =
+    sym so_far ∙ none_left front limit i lanes rest all ∙ ap (with_front front) h ∙ ap (λ (w : List TapeRecord). Ok w) (append-nil front)
 
 with_none : (read : Result (List TapeRecord) Flaw) → with_front [] read ≡ read
 with_none (Ok records) = refl

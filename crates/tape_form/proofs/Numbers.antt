@@ -3,15 +3,10 @@ use Rattle.std.proofs.Common.{◌≡◌, ℕ, zero, suc, ◌+◌, ◌-◌, ◌*�
 use Rattle.std.proofs.lemmas.Bool.{lt-ltb, le-ltb, or_left, or_right, or_from}
 use Rattle.wire_fields.specs.Reading.{◌>>=◌}
 use Rattle.run_spec.specs.TapeReading.{number_at}
-use Rattle.tape_form.specs.declared.parse.ReadFault.{ReadFault}
-use Rattle.tape_form.specs.declared.parse.ReadFault.TheVariants as faults
-use Rattle.tape_form.specs.Parsed.{Fails}
 
--- an error of a step is one of the whole
-pub fails_then : {A B : Type 0} (e : ReadFault) (r : Result A ℕ) (f : A → Result B ℕ) (whole : Result B ℕ) → whole ≡ (r >>= f) → Fails e r → Fails e whole
-fails_then faults.NoMemory r f whole is h = tt
-fails_then (faults.Bad left) r f whole is h = is ∙ ap (λ s. s >>= f) h
-fails_then (faults.TooMany left) r f whole is h = h
+-- a bad byte of a step is one of the whole
+pub bad_then : {A B : Type 0} (left : ℕ) (r : Result A ℕ) (f : A → Result B ℕ) (whole : Result B ℕ) → whole ≡ (r >>= f) → r ≡ Err left → whole ≡ Err left
+bad_then left r f whole is h = is ∙ ap (λ s. s >>= f) h
 
 -- the first of some bytes
 pub split_first : (bytes : List ℕ) → 1 ≤ length bytes → bytes ≡ get_or bytes 0 0 ∷ take (length bytes - 1) (drop 1 bytes)

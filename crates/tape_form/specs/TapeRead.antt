@@ -9,6 +9,8 @@ use Rattle.run_spec.specs.TapeReading.{Flaw, Bad, TooMany, tape_at}
 use Rattle.tape_form.specs.declared.limits.TheConstants.{MAX_TAPE, MAX_RECORDS}
 use Rattle.tape_form.specs.declared.fault.TapeFault.{TapeFault}
 use Rattle.tape_form.specs.declared.fault.TapeFault.TheVariants as faults
+use Rattle.tape_form.specs.declared.parse.ReadFault.{ReadFault}
+use Rattle.tape_form.specs.declared.parse.ReadFault.TheVariants as read_faults
 use Rattle.tape_form.specs.declared.fault.Ended.{Ended}
 use Rattle.tape_form.specs.declared.fault.Ended.TheVariants.{AtEnd, AtFault, AtLimit}
 
@@ -48,6 +50,12 @@ judged taken ended (Err (Bad (suc left))) = when_bad (taken - suc left) ended
 abbrev pub outcome : List ℕ → Ended → Result (List TapeRecord) TapeFault
 outcome taken ended = judged (length taken) ended (tape_at MAX_RECORDS taken)
 
+-- the answer where so many bytes were not read as a tape: that of their flaw, or want of memory
+abbrev pub refusal : ℕ → Ended → ReadFault → Result (List TapeRecord) TapeFault
+refusal taken ended read_faults.NoMemory = Err faults.NoMemory
+refusal taken ended (read_faults.Bad left) = judged taken ended (Err (Bad left))
+refusal taken ended (read_faults.TooMany left) = judged taken ended (Err (TooMany left))
+
 -- no more bytes were taken than the end of the taking allows
 abbrev pub EndsWithin : Ended → List ℕ → Type 0
 EndsWithin AtEnd taken = length taken ≤ MAX_TAPE
@@ -59,6 +67,12 @@ abbrev pub EndsSo : Ended → Option (List ℕ) → ℕ → ℕ → Type 0
 EndsSo AtEnd new before now = IsAtEnd new
 EndsSo AtFault new before now = Rose before now
 EndsSo AtLimit new before now = ⊤
+
+-- the same, and without a fault the source's faults are as before
+abbrev pub EndsSoundly : Ended → Option (List ℕ) → ℕ → ℕ → Type 0
+EndsSoundly AtEnd new before now = IsAtEnd new × (now ≡ before)
+EndsSoundly AtFault new before now = Rose before now
+EndsSoundly AtLimit new before now = now ≡ before
 
 -- a claim of an answer, unless memory ran out
 abbrev pub UnlessNoMemory : Result (List TapeRecord) TapeFault → Type 0 → Type 0
@@ -72,6 +86,7 @@ UnlessNoMemory (Err faults.Fault) claim = claim
 pub record IsOutcome (answer : Result (List TapeRecord) TapeFault) (taken : List ℕ) (new : Option (List ℕ)) (before now : ℕ) : Type 0 where
   pub ended : Ended
   pub so : EndsSo ended new before now
+  pub soundly : EndsSoundly ended new before now
   pub within : EndsWithin ended taken
   pub same : outcome taken ended ≡ answer
 

@@ -1,9 +1,10 @@
 // A tape's records from its bytes.
-ghost use Rattle.std.specs.Prelude.{◌≡◌, ◌+◌, ◌<◌, ◌≤◌, ◌^◌, ℕ, min, set, slice_index, IfOk, []};
-ghost use Rattle.run_spec.specs.Tape.{no_lanes, lanes_after, IsRecord};
-ghost use Rattle.run_spec.specs.TapeReading.{method_of, number_at, bytes_at, call_at, packet_at, leave_at, some_called, called_at, last_call, meet_at, end_at, item_at, text_at, nothing_after, records_at, tape_at};
+ghost use Rattle.std.specs.Prelude.{◌≡◌, ◌+◌, ◌<◌, ◌≤◌, ◌^◌, ℕ, min, set, slice_index, IfOk, IfErr};
+ghost use Rattle.run_spec.specs.Tape.{Lanes, no_lanes, lanes_after, IsRecord};
+ghost use Rattle.run_spec.specs.TapeReading.{method_of, number_at, bytes_at, call_at, packet_at, leave_at, some_called, called_at, last_call, meet_at, end_at, item_at, text_at, records_at, tape_at};
 ghost use Rattle.tape_form.specs.Calls.{lanes_of, AgreeOnCalls};
-ghost use Rattle.tape_form.specs.Parsed.{Gives, GivesAll};
+ghost use Rattle.tape_form.specs.Parsed.{Finds, Gives, GivesAll, IsEmptied, EndsAlone, behind_kind, fault_of};
+ghost use Rattle.tape_form.specs.declared.parse.Flaw.TheVariants as flaws;
 ghost use Rattle.tape_form.specs.declared.parse.ReadFault.TheVariants as faults;
 
 use list_types::ByteList;
@@ -11,14 +12,54 @@ use p4_types::calls::Method;
 use p4_types::tape::TapeRecord;
 use std::alloc::{AllocError, AllocFailed, Global};
 
-/// Why bytes were not read; a place is given by the number of bytes left from it on.
+/// The first bad byte, as the number of bytes left from it on; 0 where bytes are missing.
 #[derive(Clone, Copy)]
-pub enum ReadFault {
-    NoMemory,
+pub struct BadByte {
+    pub left: usize,
+}
+
+/// Why bytes are no tape; a place is given by the number of bytes left from it on.
+#[derive(Clone, Copy)]
+pub enum Flaw {
     /// The first bad byte; 0 where bytes are missing.
     Bad(usize),
     /// The first byte of a record past the limit.
     TooMany(usize),
+}
+
+/// Why bytes were not read: a flaw, or no memory.
+#[derive(Clone, Copy)]
+pub enum ReadFault {
+    NoMemory,
+    Bad(usize),
+    TooMany(usize),
+}
+
+impl From<BadByte> for Flaw {
+    ghost from_gives = { λ bad e. e ≡ flaws.Bad bad.left };
+
+    fn from(bad: BadByte) -> Flaw {
+        Flaw::Bad(bad.left)
+    }
+}
+
+impl From<BadByte> for ReadFault {
+    ghost from_gives = { λ bad e. e ≡ faults.Bad bad.left };
+
+    fn from(bad: BadByte) -> ReadFault {
+        ReadFault::Bad(bad.left)
+    }
+}
+
+impl From<Flaw> for ReadFault {
+    ghost from_gives = { λ flaw e. e ≡ fault_of flaw };
+
+    fn from(flaw: Flaw) -> ReadFault {
+        match flaw {
+            Flaw::Bad(left) => ReadFault::Bad(left),
+            Flaw::TooMany(left) => ReadFault::TooMany(left),
+        }
+    }
 }
 
 impl From<AllocError> for ReadFault {
@@ -39,23 +80,23 @@ impl<T: Drop> From<AllocFailed<T>> for ReadFault {
 }
 
 /// A big-endian number of so many bytes, from `low` to `high`, and the bytes after it.
-fn number_at(count: u32, low: u32, high: u32, bytes: &[u8]) -> Result<(u32, &[u8]), ReadFault>
+fn number_at(count: u32, low: u32, high: u32, bytes: &[u8]) -> Result<(u32, &[u8]), BadByte>
     requires few { count ≤ 4 }
     requires order { low ≤ high }
     requires fits { high < 256 ^ count }
-    ensures gives { Gives (λ x. (x.0, x.1.now)) result (number_at count low high bytes.now) }
+    ensures gives { Finds (λ x. (x.0, x.1.now)) result (number_at count low high bytes.now) }
     ensures within { IfOk result (λ x. (low ≤ x.0) × (x.0 ≤ high)) }
 {
     if count == 0 {
         return Ok((0, bytes));
     }
     let [first, rest @ ..] = bytes else {
-        return Err(ReadFault::Bad(0));
+        return Err(BadByte { left: 0 });
     };
     let unit = 256u32.pow(count - 1);
     let start = u32::from(*first) * unit;
     if high < start || start + (unit - 1) < low {
-        return Err(ReadFault::Bad(bytes.len()));
+        return Err(BadByte { left: bytes.len() });
     }
     let (digits, rest) = number_at(
         count - 1,
@@ -68,14 +109,20 @@ fn number_at(count: u32, low: u32, high: u32, bytes: &[u8]) -> Result<(u32, &[u8
 
 /// So many bytes, and the bytes after them.
 #[tactic(auto, unfolding(run_spec::specs::TapeReading::bytes_at))]
-fn bytes_at(alloc: Global, count: usize, bytes: &[u8]) -> Result<(ByteList, &[u8]), ReadFault>
-    ensures { Gives (λ x. (x.0, x.1.now)) result (bytes_at count bytes.now) }
+fn front_at(count: usize, bytes: &[u8]) -> Result<(&[u8], &[u8]), BadByte>
+    ensures { Finds (λ x. (x.0.now, x.1.now)) result (bytes_at count bytes.now) }
 {
     if bytes.len() < count {
-        return Err(ReadFault::Bad(0));
+        return Err(BadByte { left: 0 });
     }
-    let (front, rest) = bytes.split_at(count);
-    Ok((ByteList::from_vec(Vec::from_slice(alloc, front)?), rest))
+    Ok(bytes.split_at(count))
+}
+
+/// These bytes, in memory of their own.
+fn kept(alloc: Global, bytes: &[u8]) -> Result<ByteList, AllocError>
+    ensures { IfOk result (λ kept. kept ≡ bytes.now) }
+{
+    Ok(ByteList::from_vec(Vec::from_slice(alloc, bytes)?))
 }
 
 /// The method of this number, 1 to 6.
@@ -100,11 +147,11 @@ fn call_at(alloc: Global, bytes: &[u8]) -> Result<(TapeRecord, &[u8]), ReadFault
     let (lane, rest) = number_at(2, 0, 31, bytes)?;
     let (size, rest) = number_at(4, 1, 8_388_609, rest)?;
     let (method, rest) = number_at(1, 1, 6, rest)?;
-    let (message, rest) = bytes_at(alloc, size as usize - 1, rest)?;
+    let (message, rest) = front_at(size as usize - 1, rest)?;
     let record = TapeRecord::Call {
         lane: lane as u16,
         method: method_of(method as u8),
-        message,
+        message: kept(alloc, message)?,
     };
     Ok((record, rest))
 }
@@ -117,19 +164,19 @@ fn packet_at(alloc: Global, bytes: &[u8]) -> Result<(TapeRecord, &[u8]), ReadFau
     let (lane, rest) = number_at(2, 0, 15, bytes)?;
     let (size, rest) = number_at(4, 2, 9218, rest)?;
     let (port, rest) = number_at(2, 0, 510, rest)?;
-    let (packet, rest) = bytes_at(alloc, size as usize - 2, rest)?;
+    let (packet, rest) = front_at(size as usize - 2, rest)?;
     let record = TapeRecord::Packet {
         lane: lane as u16,
         port: port as u16,
-        packet,
+        packet: kept(alloc, packet)?,
     };
     Ok((record, rest))
 }
 
 /// What stands behind the kind of a stream's end.
 #[tactic(auto, unfolding(run_spec::specs::TapeReading::leave_at))]
-fn leave_at(bytes: &[u8]) -> Result<(TapeRecord, &[u8]), ReadFault>
-    ensures { Gives (λ x. (x.0, x.1.now)) result (leave_at bytes.now) }
+fn leave_at(bytes: &[u8]) -> Result<(TapeRecord, &[u8]), BadByte>
+    ensures { Finds (λ x. (x.0, x.1.now)) result (leave_at bytes.now) }
 {
     let (lane, rest) = number_at(2, 0, 31, bytes)?;
     let (_, rest) = number_at(4, 0, 0, rest)?;
@@ -150,18 +197,18 @@ fn some_called(calls: &[u32; 32]) -> bool
 
 /// In one byte a controller's lane that has made a call, and the bytes after it.
 #[tactic(auto, unfolding(run_spec::specs::TapeReading::called_at))]
-fn called_at<'a>(calls: &[u32; 32], bytes: &'a [u8]) -> Result<(u16, &'a [u8]), ReadFault>
-    ensures gives { Gives (λ x. (x.0, x.1.now)) result (called_at (lanes_of calls.now) bytes.now) }
+fn called_at<'a>(calls: &[u32; 32], bytes: &'a [u8]) -> Result<(u16, &'a [u8]), BadByte>
+    ensures gives { Finds (λ x. (x.0, x.1.now)) result (called_at (lanes_of calls.now) bytes.now) }
     ensures within { IfOk result (λ x. (x.0 < 32) × (1 ≤ slice_index calls.now x.0)) }
 {
     let [first, rest @ ..] = bytes else {
-        return Err(ReadFault::Bad(0));
+        return Err(BadByte { left: 0 });
     };
     let controller = u16::from(*first);
     if controller < 32 && calls[controller as usize] > 0 {
         return Ok((controller, rest));
     }
-    Err(ReadFault::Bad(bytes.len()))
+    Err(BadByte { left: bytes.len() })
 }
 
 /// The number of the last call that a controller's lane has made.
@@ -174,8 +221,8 @@ fn last_call(calls: &[u32; 32], controller: u16) -> u32
 
 /// What stands behind the kind of a meet.
 #[tactic(auto, unfolding(run_spec::specs::TapeReading::meet_at))]
-fn meet_at<'a>(calls: &[u32; 32], bytes: &'a [u8]) -> Result<(TapeRecord, &'a [u8]), ReadFault>
-    ensures { Gives (λ x. (x.0, x.1.now)) result (meet_at (lanes_of calls.now) bytes.now) }
+fn meet_at<'a>(calls: &[u32; 32], bytes: &'a [u8]) -> Result<(TapeRecord, &'a [u8]), BadByte>
+    ensures { Finds (λ x. (x.0, x.1.now)) result (meet_at (lanes_of calls.now) bytes.now) }
 {
     let (lane, rest) = number_at(2, 0, 15, bytes)?;
     let (_, rest) = number_at(4, 6, 6, rest)?;
@@ -192,16 +239,74 @@ fn meet_at<'a>(calls: &[u32; 32], bytes: &'a [u8]) -> Result<(TapeRecord, &'a [u
 
 /// What stands behind the kind of the end record.
 #[tactic(auto, unfolding(run_spec::specs::TapeReading::end_at))]
-fn end_at(bytes: &[u8]) -> Result<&[u8], ReadFault>
-    ensures { Gives (λ x. x.now) result (end_at bytes.now) }
+fn end_at(bytes: &[u8]) -> Result<&[u8], BadByte>
+    ensures { Finds (λ x. x.now) result (end_at bytes.now) }
 {
     let (_, rest) = number_at(2, 0, 0, bytes)?;
     let (_, rest) = number_at(4, 0, 0, rest)?;
     Ok(rest)
 }
 
-/// A record, or none for the end record, and the bytes after it, where the lanes have made so many calls.
+/// What a record is by its first byte.
+#[derive(Clone, Copy)]
+pub enum Kind {
+    End,
+    Call,
+    Packet,
+    Leave,
+    Meet,
+}
+
+/// The kind of the record that begins, where the lanes have made so many calls, and the bytes after it.
 #[tactic(auto, unfolding(run_spec::specs::TapeReading::item_at))]
+fn kind_at<'a>(calls: &[u32; 32], bytes: &'a [u8]) -> Result<(Kind, &'a [u8]), BadByte>
+    ensures kind { IfOk result (λ x. item_at (lanes_of calls.now) bytes.now ≡ behind_kind x.0 (lanes_of calls.now) x.1.now) }
+    ensures bad { IfErr result (λ bad. item_at (lanes_of calls.now) bytes.now ≡ Err bad.left) }
+{
+    match bytes {
+        [0, rest @ ..] => Ok((Kind::End, rest)),
+        [1, rest @ ..] => Ok((Kind::Call, rest)),
+        [2, rest @ ..] => Ok((Kind::Packet, rest)),
+        [4, rest @ ..] => Ok((Kind::Leave, rest)),
+        [5, rest @ ..] if some_called(calls) => Ok((Kind::Meet, rest)),
+        _ => Err(BadByte { left: bytes.len() }),
+    }
+}
+
+/// What stands behind a kind.
+fn behind_kind<'a>(
+    alloc: Global,
+    kind: Kind,
+    calls: &[u32; 32],
+    rest: &'a [u8],
+) -> Result<(Option<TapeRecord>, &'a [u8]), ReadFault>
+    ensures { Gives (λ x. (x.0, x.1.now)) result (behind_kind kind (lanes_of calls.now) rest.now) }
+{
+    match kind {
+        Kind::End => {
+            let rest = end_at(rest)?;
+            Ok((None, rest))
+        }
+        Kind::Call => {
+            let (call, rest) = call_at(alloc, rest)?;
+            Ok((Some(call), rest))
+        }
+        Kind::Packet => {
+            let (packet, rest) = packet_at(alloc, rest)?;
+            Ok((Some(packet), rest))
+        }
+        Kind::Leave => {
+            let (leave, rest) = leave_at(rest)?;
+            Ok((Some(leave), rest))
+        }
+        Kind::Meet => {
+            let (meet, rest) = meet_at(calls, rest)?;
+            Ok((Some(meet), rest))
+        }
+    }
+}
+
+/// A record, or none for the end record, and the bytes after it, where the lanes have made so many calls.
 fn item_at<'a>(
     alloc: Global,
     calls: &[u32; 32],
@@ -209,33 +314,8 @@ fn item_at<'a>(
 ) -> Result<(Option<TapeRecord>, &'a [u8]), ReadFault>
     ensures { Gives (λ x. (x.0, x.1.now)) result (item_at (lanes_of calls.now) bytes.now) }
 {
-    match bytes {
-        [] => Err(ReadFault::Bad(0)),
-        [0, rest @ ..] => {
-            let rest = end_at(rest)?;
-            Ok((None, rest))
-        }
-        [1, rest @ ..] => {
-            let (call, rest) = call_at(alloc, rest)?;
-            Ok((Some(call), rest))
-        }
-        [2, rest @ ..] => {
-            let (packet, rest) = packet_at(alloc, rest)?;
-            Ok((Some(packet), rest))
-        }
-        [4, rest @ ..] => {
-            let (leave, rest) = leave_at(rest)?;
-            Ok((Some(leave), rest))
-        }
-        [5, rest @ ..] => {
-            if !some_called(calls) {
-                return Err(ReadFault::Bad(bytes.len()));
-            }
-            let (meet, rest) = meet_at(calls, rest)?;
-            Ok((Some(meet), rest))
-        }
-        [_, ..] => Err(ReadFault::Bad(bytes.len())),
-    }
+    let (kind, rest) = kind_at(calls, bytes)?;
+    behind_kind(alloc, kind, calls, rest)
 }
 
 /// Counts one more call of a lane.
@@ -261,16 +341,16 @@ fn count_call(calls: &mut [u32; 32], record: &TapeRecord)
 
 /// The bytes behind this text.
 #[tactic(auto, unfolding(run_spec::specs::TapeReading::text_at))]
-fn text_at<'a>(text: &[u8], bytes: &'a [u8]) -> Result<&'a [u8], ReadFault>
-    ensures { Gives (λ x. x.now) result (text_at text.now bytes.now) }
+fn text_at<'a>(text: &[u8], bytes: &'a [u8]) -> Result<&'a [u8], BadByte>
+    ensures { Finds (λ x. x.now) result (text_at text.now bytes.now) }
 {
     let mut rest = bytes;
     for wanted in text {
         match rest {
-            [] => return Err(ReadFault::Bad(0)),
+            [] => return Err(BadByte { left: 0 }),
             [first, after @ ..] => {
                 if *first != *wanted {
-                    return Err(ReadFault::Bad(rest.len()));
+                    return Err(BadByte { left: rest.len() });
                 }
                 rest = after;
             }
@@ -300,30 +380,30 @@ fn records_at(alloc: Global, limit: u32, bytes: &[u8]) -> Result<Vec<TapeRecord>
         }
         rest = after;
     }
-    end_alone(alloc, &calls, rest)?;
+    end_alone(rest)?;
     Ok(records)
 }
 
 /// No bytes are left.
-fn nothing_in(rest: &[u8]) -> Result<(), ReadFault>
-    ensures { GivesAll (λ _. []) result (nothing_after rest.now) }
+fn nothing_in(rest: &[u8]) -> Result<(), BadByte>
+    ensures { IsEmptied result rest.now }
 {
     if !rest.is_empty() {
-        return Err(ReadFault::Bad(rest.len()));
+        return Err(BadByte { left: rest.len() });
     }
     Ok(())
 }
 
 /// The end record alone is left: behind the last record that may stand on a tape.
-#[tactic(auto, unfolding(run_spec::specs::TapeReading::records_at))]
-fn end_alone(alloc: Global, calls: &[u32; 32], rest: &[u8]) -> Result<(), ReadFault>
-    ensures { GivesAll (λ _. []) result (records_at 0 (lanes_of calls.now) rest.now) }
+#[tactic(auto, unfolding(run_spec::specs::TapeReading::records_at, run_spec::specs::TapeReading::item_at))]
+fn end_alone(rest: &[u8]) -> Result<(), Flaw>
+    ensures { (lanes : Lanes) → EndsAlone result (records_at 0 lanes rest.now) }
 {
-    if let [1..=5, ..] = rest {
-        return Err(ReadFault::TooMany(rest.len()));
+    match rest {
+        [0, after @ ..] => Ok(nothing_in(end_at(after)?)?),
+        [1..=5, ..] => Err(Flaw::TooMany(rest.len())),
+        _ => Err(Flaw::Bad(rest.len())),
     }
-    let (_, after) = item_at(alloc, calls, rest)?;
-    nothing_in(after)
 }
 
 /// The records of the tape that the bytes are.

@@ -1,8 +1,8 @@
 // A tape from a source.
-ghost use Rattle.std.specs.Prelude.{◌≡◌, ◌≤◌, ℕ, List, IfOk, IfErr, IsErrOf, All, length};
+ghost use Rattle.std.specs.Prelude.{◌≡◌, ◌≤◌, ℕ, List, IfOk, IfErr, OnOk, OnErr, IsErrOf, All, length};
 ghost use Rattle.run_spec.specs.Tape.{IsRecord, tape_bytes};
 ghost use Rattle.sw_edge.specs.Counts.{HasCause};
-ghost use Rattle.tape_form.specs.TapeRead.{InLimits, UnlessNoMemory, outcome, when_whole, when_short, when_bad, EndsWithin, EndsSo, IsTakenFrom, IsReadFrom, IsWholeTape, IsBadAt, IsTooLong, IsAnswerToTape};
+ghost use Rattle.tape_form.specs.TapeRead.{InLimits, UnlessNoMemory, outcome, when_whole, when_short, when_bad, refusal, EndsWithin, EndsSo, EndsSoundly, IsTakenFrom, IsReadFrom, IsWholeTape, IsBadAt, IsTooLong, IsAnswerToTape};
 
 use crate::fault::{Ended, TapeFault};
 use crate::limits::{MAX_RECORDS, MAX_TAPE};
@@ -41,6 +41,7 @@ impl Tape {
         ensures tape { IfOk result (λ tape. IsWholeTape (S.left source.old) (S.left source.new) tape) }
         ensures bad { (place : ℕ) → IsErrOf result (TapeFault.Bad place) → IsBadAt (S.left source.old) (S.left source.new) place }
         ensures too_long { IsErrOf result TapeFault.TooLong → IsTooLong (S.left source.old) (S.left source.new) }
+        ensures sound { OnOk result (S.faults source.new ≡ S.faults source.old) }
         ensures fault { HasCause (S.faults source.old) (S.faults source.new) (IsErrOf result TapeFault.Fault) }
         ensures complete { (records : List TapeRecord) → InLimits records → S.left source.old ≡ Some (tape_bytes records) → IsAnswerToTape records result }
     {
@@ -69,8 +70,10 @@ fn piece_of(alloc: Global) -> Result<Vec<u8>, AllocError>
 pub fn take_bytes<S: Source>(alloc: Global, source: &mut S) -> Result<(Vec<u8>, Ended), AllocError>
     ensures ok { IfOk result (λ x. IsTakenFrom (S.left source.old) (S.left source.new) x.0.items) }
     ensures ended { IfOk result (λ x. EndsSo x.1 (S.left source.new) (S.faults source.old) (S.faults source.new)) }
+    ensures soundly { IfOk result (λ x. EndsSoundly x.1 (S.left source.new) (S.faults source.old) (S.faults source.new)) }
     ensures within { IfOk result (λ x. EndsWithin x.1 x.0.items) }
     ensures no_memory { IfErr result (λ _. (taken : List ℕ) × IsTakenFrom (S.left source.old) (S.left source.new) taken) }
+    ensures calm { OnErr result (S.faults source.new ≡ S.faults source.old) }
     ensures later { S.faults source.old ≤ S.faults source.new }
 {
     let mut bytes = Vec::new(alloc);
@@ -120,6 +123,19 @@ fn bad(place: usize, ended: Ended) -> Result<Tape, TapeFault>
     }
 }
 
+/// The answer where so many bytes were not read as a tape.
+fn refusal(taken: usize, ended: Ended, fault: ReadFault) -> Result<Tape, TapeFault>
+    requires { (left : ℕ) → fault ≡ ReadFault.Bad left → left ≤ taken }
+    ensures { refusal taken ended fault ≡ result }
+{
+    match fault {
+        ReadFault::NoMemory => Err(TapeFault::NoMemory),
+        ReadFault::TooMany(_) => Err(TapeFault::TooLong),
+        ReadFault::Bad(0) => short(taken, ended),
+        ReadFault::Bad(left) => bad(taken - left, ended),
+    }
+}
+
 /// The tape that the bytes are, or the answer to them.
 fn judge(alloc: Global, bytes: &[u8], ended: Ended) -> Result<Tape, TapeFault>
     requires { EndsWithin ended bytes.now }
@@ -127,10 +143,7 @@ fn judge(alloc: Global, bytes: &[u8], ended: Ended) -> Result<Tape, TapeFault>
 {
     match tape_at(alloc, MAX_RECORDS, bytes) {
         Ok(records) => whole(records, ended),
-        Err(ReadFault::NoMemory) => Err(TapeFault::NoMemory),
-        Err(ReadFault::TooMany(_)) => Err(TapeFault::TooLong),
-        Err(ReadFault::Bad(0)) => short(bytes.len(), ended),
-        Err(ReadFault::Bad(left)) => bad(bytes.len() - left, ended),
+        Err(fault) => refusal(bytes.len(), ended, fault),
     }
 }
 

@@ -85,3 +85,16 @@ returns-clause-judged g c command holds reads writes =
     let new = streams (g.S.Source.left c.status_of-status.new.tape) (g.O.Sink.sent c.status_of-status.new.out) (g.S.Source.faults c.status_of-status.new.tape) (g.O.Sink.faults c.status_of-status.new.out) in
     let words = map (λ word. word.now) c.args.words.now in
     rw c.number.ensures (endings.judged _ c.status_of-status.result words old new refl c.status_of-status.ensures.ends command holds reads writes)
+
+pub returns-clause-first : goal.returns-clause-first
+returns-clause-first g c =
+    let old = streams (g.S.Source.left c.args.tape.now) (g.O.Sink.sent c.args.out.now) (g.S.Source.faults c.args.tape.now) (g.O.Sink.faults c.args.out.now) in
+    let new = streams (g.S.Source.left c.status_of-status.new.tape) (g.O.Sink.sent c.status_of-status.new.out) (g.S.Source.faults c.status_of-status.new.tape) (g.O.Sink.faults c.status_of-status.new.out) in
+    let words = map (λ word. word.now) c.args.words.now in
+    rw c.number.ensures (endings.first _ c.status_of-status.result words old new refl c.status_of-status.ensures.ends)
+
+pub returns-clause-no_write_fault : goal.returns-clause-no_write_fault
+returns-clause-no_write_fault g c =
+    let old = streams (g.S.Source.left c.args.tape.now) (g.O.Sink.sent c.args.out.now) (g.S.Source.faults c.args.tape.now) (g.O.Sink.faults c.args.out.now) in
+    let new = streams (g.S.Source.left c.status_of-status.new.tape) (g.O.Sink.sent c.status_of-status.new.out) (g.S.Source.faults c.status_of-status.new.tape) (g.O.Sink.faults c.status_of-status.new.out) in
+    λ not. endings.sound_sink _ c.status_of-status.result old new c.status_of-status.ensures.ends (λ e. not (c.number.ensures ∙ e))

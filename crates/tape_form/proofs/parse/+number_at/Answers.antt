@@ -1,6 +1,6 @@
 use Rattle.std.proofs.Common.{◌+◌, ◌-◌, ◌*◌, ◌∙◌, refl, Ok, arith, inl, inr}
 use Rattle.std.proofs.lemmas.Result.{err_from_is_err_and}
-use Rattle.tape_form.proofs.Numbers.{fails_then, unit_small, start_fits, number_none, number_missing, number_bad, number_goes_on}
+use Rattle.tape_form.proofs.Numbers.{bad_then, unit_small, start_fits, number_none, number_missing, number_bad, number_goes_on}
 use Rattle.tape_form.proofs.parse.+number_at.Goals as goal
 use Rattle.tape_form.proofs.parse.+number_at.Goals.{then-high-start-via-then-high-start, then-high-start-via-else-high-start+then-start-unit}
 
@@ -42,7 +42,7 @@ number_at-requires t c =
 pub returns-in_err-digits-clause-gives : goal.returns-in_err-digits-clause-gives
 returns-in_err-digits-clause-gives t c =
     let p = err_from_is_err_and c.from_residual.result c.from_residual.ensures.1 in
-    rw (p.1, p.2) (fails_then c.in_err-digits.field-0.0 _ (λ x. Ok (c.from.result * c.pow-unit.result + x.0, x.1)) _
+    rw (p.1, p.2) (bad_then c.in_err-digits.field-0.0.left _ (λ x. Ok (c.from.result * c.pow-unit.result + x.0, x.1)) _
     (number_goes_on c.args.count c.args.low c.args.high c.from.result c.pow-unit.result c.args.bytes.now (omega arith) c.in-len1-up.len_at_least c.from.ensures c.pow-unit.ensures c.if-high-start.false c.if-start-unit.false)
     (rw (c.saturating_sub.ensures, c.min.ensures) at c.in_err-digits.ensures.gives))
 

@@ -15,7 +15,7 @@ returns-in_err-item c =
 pub returns-in_err-nothing_in-in-None : goal.returns-in_err-nothing_in-in-None
 returns-in_err-nothing_in-in-None c =
     let p = err_from_is_err_and c.from_residual-in_err-nothing_in-in-None.result c.from_residual-in_err-nothing_in-in-None.ensures.1 in
-    rw (p.1, p.2) (ends_badly c.in_err-nothing_in-in-None.field-0.0 c.loop.records.items c.args.limit c.loop.counter (lanes_of c.loop.calls) c.loop.rest.now c.in_ok-item.after.now (records_at c.args.limit no_lanes c.args.bytes.now) c.loop-test.true
+    rw (p.1, p.2) (ends_badly c.in_err-nothing_in-in-None.field-0.0.left c.loop.records.items c.args.limit c.loop.counter (lanes_of c.loop.calls) c.loop.rest.now c.in_ok-item.after.now (records_at c.args.limit no_lanes c.args.bytes.now) c.loop-test.true
     (rw c.in-None.is at c.in_ok-item.ensures) c.in_err-nothing_in-in-None.ensures c.loop.invariant)
 
 pub returns-in-None : goal.returns-in-None

@@ -1,4 +1,4 @@
-use Rattle.std.proofs.Common.{◌≡◌, ◌+◌, ◌≤◌, ◌++◌, length, take, drop, arith, refl, length-append, length-take, length-drop}
+use Rattle.std.proofs.Common.{◌≡◌, ◌+◌, ◌≤◌, ◌++◌, ◌∙◌, length, take, drop, arith, refl, length-append, length-take, length-drop}
 use Rattle.std.proofs.lemmas.Result.{err_from_is_err_and}
 use Rattle.tape_form.proofs.Taking.{taken_more}
 use Rattle.tape_form.proofs.read.take_bytes.Goals as goal
@@ -13,7 +13,7 @@ loop-buffer-preserved g c =
       consumed = more.consumed;
       size = more.size;
       room = omega (arith, size, length-take c.min-room.result c.loop-buffer.buffer, length-drop c.min-room.result c.loop-buffer.buffer, length-append c.read.new.buf (drop c.min-room.result c.loop-buffer.buffer));
-      later = omega (arith, c.in-Bytes.ensures.failed.later);
+      sound = c.in-Bytes.ensures.no_fault (λ e. cc) ∙ c.loop-buffer.invariant.sound;
     }
 
 pub returns-in_err-extend_from_slice-in-Bytes-clause-no_memory : goal.returns-in_err-extend_from_slice-in-Bytes-clause-no_memory

@@ -9,7 +9,7 @@ invariant-loop-buffer g l = record {
   consumed : Consumes (g.S.Source.left l.fn.source) (g.S.Source.left l.source) l.bytes.items;
   size : length l.bytes.items ≤ suc MAX_TAPE;
   room : length l.buffer ≡ PIECE;
-  later : g.S.Source.faults l.fn.source ≤ g.S.Source.faults l.source;
+  sound : g.S.Source.faults l.source ≡ g.S.Source.faults l.fn.source;
 }
 
 abbrev pub decreases-loop-buffer : goal.decreases-loop-buffer

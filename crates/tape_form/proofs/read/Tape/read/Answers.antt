@@ -1,9 +1,12 @@
 use Rattle.tape_form.proofs.Complete.{complete}
-use Rattle.tape_form.proofs.Judging.{whole_tape, if_bad, if_too_long, if_fault}
+use Rattle.tape_form.proofs.Judging.{whole_tape, whole_sound, if_bad, if_too_long, if_fault}
 use Rattle.tape_form.proofs.read.Tape.read.Goals as goal
 
 pub returns-clause-tape : goal.returns-clause-tape
 returns-clause-tape g c = whole_tape _ _ _ _ c.read_from.result c.read_from.ensures.exact
+
+pub returns-clause-sound : goal.returns-clause-sound
+returns-clause-sound g c = whole_sound _ _ _ _ c.read_from.result c.read_from.ensures.exact
 
 pub returns-clause-bad : goal.returns-clause-bad
 returns-clause-bad g c = if_bad _ _ _ _ c.read_from.result c.read_from.ensures.exact

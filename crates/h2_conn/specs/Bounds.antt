@@ -1,0 +1,63 @@
+-- What a connection keeps at most, whatever its peer sends (RFC 9113, sections 4.2, 5.1.2 and 10.5, and this project's profile).
+use Rattle.std.specs.Prelude.{◌≡◌, ◌≤◌, ℕ, ◌+◌, false, List, [], length, Option, Some, None, All, sum_by}
+use Rattle.hpack_tables.specs.Tables.{entry_size}
+use Rattle.hpack_tables.specs.Writing.{block_bytes}
+use Rattle.h2_streams.specs.declared.stream.Stream.{Stream}
+use Rattle.h2_streams.specs.declared.stream.Waiting.{Waiting}
+use Rattle.h2_streams.specs.declared.stream.Waiting.TheVariants as waitings
+use Rattle.h2_streams.specs.Streams.{is_over, open_count}
+use Rattle.h2_conn.specs.declared.state.State.{State}
+use Rattle.h2_conn.specs.declared.state.HeaderBlock.{HeaderBlock}
+use Rattle.h2_conn.specs.declared.phase.Phase.{Phase}
+use Rattle.h2_conn.specs.declared.phase.Phase.TheVariants as phases
+use Rattle.h2_conn.specs.Bytes.{opening}
+use Rattle.h2_conn.specs.History.{Turn, history}
+use Rattle.h2_conn.specs.History as turns
+
+-- the size of what waits: its bytes, and one for itself
+abbrev pub waiting_size : Waiting → ℕ
+waiting_size (waitings.Data message) = 1 + length message
+waiting_size (waitings.Headers block end_stream) = 1 + length block
+
+-- the size of all that waits on a stream
+abbrev pub load : Stream → ℕ
+load stream = sum_by waiting_size stream.waiting
+
+-- the bytes of a header block that is not whole
+abbrev pub fragment_of : Option HeaderBlock → List ℕ
+fragment_of None = []
+fragment_of (Some block) = block.fragment
+
+-- one side at least has not ended the stream
+abbrev pub IsLive : Stream → Type 0
+IsLive stream = is_over stream ≡ false
+
+-- What a connection keeps, which was given so much to send.
+pub record IsWithin (given : ℕ) (conn : State) : Type 0 where
+  -- a frame that is not whole, nine bytes of head and its payload
+  pub unread : length conn.unread ≤ 9 + 16384
+  pub block : length (fragment_of conn.block) ≤ 262144
+  pub entries : sum_by entry_size conn.decoder.entries ≤ 4096
+  -- streams on which this side can still send, and all that are kept
+  pub sendable : open_count conn.streams ≤ 100
+  pub kept : length conn.streams ≤ 1000
+  pub live : All IsLive conn.streams
+  pub skipped : length conn.skipped ≤ 1000
+  pub waiting : sum_by load conn.streams ≤ given
+
+-- the same of a connection that may have ended
+abbrev pub IsBounded : ℕ → Phase → Type 0
+IsBounded given (phases.Open conn) = IsWithin given conn
+IsBounded given (phases.Broken code output) = Unit {0}
+IsBounded given phases.OutOfMemory = Unit {0}
+
+-- how much is given to a connection to send
+abbrev pub given_by : Turn → ℕ
+given_by (turns.Received bytes) = 0
+given_by (turns.HeadersSent stream headers end_stream) = 1 + length (block_bytes headers)
+given_by (turns.DataSent stream bytes) = 1 + length bytes
+given_by turns.OutputTaken = 0
+
+-- Whatever happens to a connection, what it keeps has limits, and of what was given to it to send no more waits.
+abbrev pub AlwaysBounded : Type 0
+AlwaysBounded = (past : List Turn) → IsBounded (sum_by given_by past) (history opening past).0

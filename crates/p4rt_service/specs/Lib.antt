@@ -1,0 +1,4 @@
+pub mod Dialogues
+pub mod Serving
+pub mod Turns
+pub mod Laws

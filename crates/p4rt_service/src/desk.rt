@@ -1,0 +1,49 @@
+//! What answers the calls of a lane.
+ghost use Rattle.std.specs.Prelude as spec;
+ghost use Rattle.p4_types.specs.declared.calls.Call as call;
+ghost use Rattle.p4_types.specs.declared.calls.Reply as reply;
+ghost use Rattle.p4rt_service.specs.declared.desk.Next as next;
+
+use p4_types::calls::{Call, Reply};
+use p4_types::messages::StreamMessageResponse;
+use p4_types::records::Output;
+use std::alloc::Global;
+
+/// What waits for a lane.
+#[derive(Drop)]
+pub enum Next {
+    /// A message for its stream channel.
+    Message(StreamMessageResponse),
+    /// A packet of its own, which leaves at a port.
+    Output(Output),
+    /// More messages came than may wait, and none that came since is kept: the channel is to be closed.
+    Overflow,
+}
+
+/// What answers the calls of lanes, of which each has a pass. Many lanes may ask at once; a desk may wait, and owns what
+/// waiting needs.
+pub trait Desk {
+    /// What a lane asks with, and the desk keeps of it.
+    type Pass;
+
+    /// The pass is of this desk.
+    ghost is_of: { Self → Self.Pass → Type 0 };
+
+    /// How a call and its reply may change a pass. A desk whose passes tell what was asked has it here.
+    ghost answers: { Self.Pass → call.Call → reply.Reply → Self.Pass → Type 0 };
+
+    /// How what waits at a moment, once it is given, may change a pass.
+    ghost gives: { Self.Pass → spec.ℕ → spec.Option next.Next → Self.Pass → Type 0 };
+
+    /// Answers the next call of the lane. A call for which there is no memory is answered UNAVAILABLE.
+    fn ask(&self, alloc: Global, pass: &mut Self::Pass, call: &Call) -> Reply
+        requires { is_of self.now pass.old }
+        ensures of { is_of self.now pass.new }
+        ensures answered { answers pass.old call.now result pass.new };
+
+    /// Gives the oldest of what waits for the lane at a moment, in nanoseconds, or nothing.
+    fn next(&self, alloc: Global, pass: &mut Self::Pass, now: u64) -> Option<Next>
+        requires { is_of self.now pass.old }
+        ensures of { is_of self.now pass.new }
+        ensures given { gives pass.old now result pass.new };
+}
