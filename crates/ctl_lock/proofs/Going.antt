@@ -95,7 +95,7 @@ quiet list start bank lane calls todo made work seen signed h looks sums none =
     let turn : Turn = record { signed = signed; sums = noted_by seen.seat; packet = None } in
     let packets : beside (entering start (made ++ signed ∷ [])) seen.records ≡ beside arrivals work.records ++ [] =
     ap (λ (a : List Arrival). beside a seen.records) same ∙ ap (λ (w : Work). beside arrivals w.records) looks.others ∙ sym (append-nil (beside arrivals work.records)) in
-    let read = reading_more made (beside arrivals work.records) (noted_by work.seat) turn h.reading looks.more sums (noted_by seen.seat) (none_more (noted_by seen.seat)) in
+    let read = reading_more made (beside arrivals work.records) (noted_by work.seat) turn h.reading (sym (ap is_some none)) looks.more sums (noted_by seen.seat) (none_more (noted_by seen.seat)) in
     record {
       own = looked_own list start bank (Controller lane) work seen looks h.own;
       work_is = subst (λ (l : List ℕ). IsWork (entering start (made ++ signed ∷ [])) l seen) (sym least) (subst (λ (a : List Arrival). IsWork a (least_of made) seen) (sym same) stays);
@@ -134,7 +134,7 @@ busy list start bank lane calls todo made work seen done signed told packet h lo
     let known : NoMore (behind_packet (noted_by seen.seat) (Some carried)) (noted_by done.seat) =
     no_more_as (behind_packet (noted_by seen.seat) (Some carried)) (behind_packet (noted_by seen.seat) (Some carried)) (noted_by done.seat) (none_more (behind_packet (noted_by seen.seat) (Some carried)))
     (λ slot. ap (λ (a : Account). noted_by a slot) ran.counted ∙ counts_noted (length packet) r.hits seen.seat slot) in
-    let read = reading_more made (beside arrivals work.records) (noted_by work.seat) turn h.reading looks.more sums (noted_by done.seat) known in
+    let read = reading_more made (beside arrivals work.records) (noted_by work.seat) turn h.reading (sym (ap is_some some)) looks.more sums (noted_by done.seat) known in
     record {
       own = record {
         who_is = ran.who ∙ own.who_is;
@@ -184,5 +184,5 @@ pass_new list start bank lane calls work own fresh added = record {
   own = own;
   calls_are = refl;
   work_is = subst (λ (w : Work). IsWork [] [] w) (sym fresh) (work_begins work.who work.told work.refusals work.seat added);
-  reading = record { turns = []; made_are = refl; packets_are = refl; rising = λ slot. (omega arith, omega arith) };
+  reading = record { turns = []; own = tt; made_are = refl; packets_are = refl; rising = λ slot. (omega arith, omega arith) };
 }

@@ -1,6 +1,6 @@
 mod Closing
 mod Going
-mod Meeting
+pub mod Meeting
 mod Noting
 mod Standing
 mod Turning

@@ -1,6 +1,6 @@
 -- What the calls of a lane saw of the counters, beside what its own packets counted (this project's profile).
-use Rattle.std.specs.Prelude.{◌≡◌, ℕ, ◌<◌, ◌≤◌, ◌%◌, ◌^◌, List, [], ◌∷◌, length, map, Option, Some, None}
-use Rattle.std.specs.List.{filter_map}
+use Rattle.std.specs.Prelude.{◌≡◌, ℕ, ◌<◌, ◌≤◌, ◌%◌, ◌^◌, List, [], ◌∷◌, length, map, Option, Some, None, is_some}
+use Rattle.std.specs.List.{filter_map, AllByRecursion}
 use Rattle.counter_bank.specs.Account.{Account}
 use Rattle.counter_bank.specs.Figures.{packets_of, bytes_of}
 use Rattle.ctl_lock.specs.Calls.{figures_in}
@@ -48,9 +48,14 @@ abbrev pub Rising : Figures → List Turn → Figures → Type 0
 Rising floor [] last = NoMore floor last
 Rising floor (turn ∷ turns) last = NoMore floor turn.sums × AreSums turn.signed.figures turn.sums × Rising (behind_packet turn.sums turn.packet) turns last
 
+-- a packet is in a turn just where the turn's call made one enter
+abbrev pub HasOwnPacket : Turn → Type 0
+HasOwnPacket turn = is_some turn.packet ≡ is_some turn.signed.entry.reply.packet
+
 -- The calls that a lane made and the packets that they made enter, in their turns; this is known of the counters at last.
 pub record IsReading (made : List Signed) (packets : List Carried) (last : Figures) : Type 0 where
   pub turns : List Turn
+  pub own : AllByRecursion HasOwnPacket turns
   pub made_are : map (λ (turn : Turn). turn.signed) turns ≡ made
   pub packets_are : filter_map (λ (turn : Turn). turn.packet) turns ≡ packets
   pub rising : Rising no_figures turns last

@@ -19,6 +19,7 @@ use lane_work::LaneWork;
 use list_types::NoMemory;
 use std::alloc::Global;
 use std::marker::{Model, PhantomData};
+use std::sync::atomic::{AtomicBool, Ordering};
 use std::sync::{Mutex, Wait};
 use std::thread::yield_now;
 use switch_spec::calls::LaneCall;
@@ -41,6 +42,8 @@ pub struct TapeDesk<J: Naming, R: Wait + Drop> {
     pub(crate) table: LaneTable<Signed>,
     pub(crate) bank: Bank,
     pub(crate) locked: Mutex<Locked<J, R>>,
+    // whether a lane found no memory, so that calls which others wait for may never be made
+    pub(crate) gave_up: AtomicBool,
 }
 
 impl<J: Naming, R: Wait + Drop> Model for TapeDesk<J, R> {
@@ -73,6 +76,7 @@ impl<J: Naming, R: Wait + Drop> TapeDesk<J, R> {
             table,
             bank,
             locked: Mutex::new(locked),
+            gave_up: AtomicBool::new(false),
         }
     }
 
@@ -166,6 +170,7 @@ impl<J: Naming, R: Wait + Drop> TapeDesk<J, R> {
             );
         };
         let Ok(()) = self.call_whole(rt, lane, cpu, &mut seat, &mut work, call) else {
+            self.gave_up.store(true, Ordering::SeqCst);
             let failed = true;
             return (
                 CallPass {
@@ -214,15 +219,19 @@ impl<J: Naming, R: Wait + Drop> TapeDesk<J, R> {
         })
     }
 
-    /// Waits until a controller's lane has made its call of this number, from 1. It returns once the journal has that call.
-    pub fn told_after<W: Wait>(&self, rt: &W, lane: u16, call: u32) -> Met<J>
+    /// Waits until a controller's lane has made its call of this number, from 1. It returns once the journal has that call, or
+    /// once a lane found no memory, as its calls are made no more.
+    pub fn told_after<W: Wait>(&self, rt: &W, lane: u16, call: u32) -> Result<Met<J>, NoMemory>
         requires lane { lane < 32 }
-        ensures lane { result.lane ≡ lane }
-        ensures call { result.call ≡ call }
+        ensures lane { IfOk result (λ met. met.lane ≡ lane) }
+        ensures call { IfOk result (λ met. met.call ≡ call) }
     {
         for _ in rt.forever() {
             if let Some(met) = self.meet(rt, lane, call) {
-                return met;
+                return Ok(met);
+            }
+            if self.gave_up.load(Ordering::SeqCst) {
+                return Err(NoMemory);
             }
             yield_now();
         }

@@ -105,6 +105,7 @@ impl<J: Naming, R: Wait + Drop> TapeDesk<J, R> {
             table,
             bank,
             locked,
+            gave_up: _,
         } = self;
         let (control, mut line, journal, seat) = locked.into_inner().into_parts();
         close(rt, alloc, &mut line);

@@ -1,0 +1,10 @@
+pub mod Lists
+pub mod Lanes
+pub mod Short
+pub mod Few
+pub mod Words
+pub mod Lines
+pub mod Valid
+pub mod Hits
+pub mod Rising
+pub mod Bounded

@@ -1,0 +1,4 @@
+pub mod Hits
+pub mod Packets
+pub mod Reading
+pub mod Totals

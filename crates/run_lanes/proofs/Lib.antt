@@ -1,0 +1,3 @@
+mod Closes
+pub mod Gathering
+mod Taking

@@ -1,0 +1,16 @@
+//! What holds lanes back.
+use p4_types::tape::Who;
+
+/// Holds a lane back before each of its calls or packets, so that a test can choose an interleaving.
+pub trait Gate {
+    /// The lane is about to make its call, or to run its packet, of this number, from 1.
+    fn turn(&self, who: Who, number: u64);
+}
+
+/// Holds no lane back.
+#[derive(Clone, Copy)]
+pub struct Freely;
+
+impl Gate for Freely {
+    fn turn(&self, _who: Who, _number: u64) {}
+}

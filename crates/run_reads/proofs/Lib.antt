@@ -1,0 +1,4 @@
+pub mod Turns
+pub mod Sights
+pub mod Seats
+pub mod Bounded

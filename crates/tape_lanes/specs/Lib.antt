@@ -1,0 +1,3 @@
+pub mod Dealing
+pub mod Lanes
+pub mod Laws
