@@ -5,7 +5,7 @@ use Rattle.std.proofs.lemmas.List.{get_or_past}
 use Rattle.p4_types.specs.declared.info.Counter.{Counter}
 use Rattle.p4_types.specs.declared.journal.CellLine.{CellLine}
 use Rattle.switch_spec.specs.Counts.{Figures, cell_line, cell_lines_from, cell_lines_of}
-use Rattle.slot_totals.specs.State.{TotalsState, figures}
+use Rattle.slot_totals.specs.State.{TotalsState, AreBlank, figures}
 
 -- the lines of the cells from an index on are that of its cell, and those of the others
 pub cells_step : (g : Figures) (size first id index : ℕ) → index < size
@@ -21,10 +21,7 @@ drop_step counters counter i in_range is =
     let next : suc i ≡ i + 1 = omega arith in
     drop-cons counters i counter in_range ∙ ap (λ c. c ∷ drop (suc i) counters) (sym is) ∙ ap (λ n. counter ∷ drop n counters) next
 
--- from this slot on no counter has counted
-abbrev AreBlank : Figures → ℕ → Type 0
-AreBlank g slot = (x : ℕ) → slot ≤ x → g x ≡ (0, 0)
-
+-- slots that are not kept have counted nothing
 pub blank_behind : (totals : TotalsState) → AreBlank (figures totals) (length totals.counts)
 blank_behind totals x le = get_or_past totals.counts x (0, 0) le
 
@@ -43,13 +40,13 @@ no_counters g kept slot (counter ∷ counters) blank le =
     ap (λ lines. lines ++ cell_lines_of g (slot + counter.size) counters) (no_cells g kept counter.size slot counter.preamble.id 0 blank le)
     ∙ no_counters g kept (slot + counter.size) counters blank (omega arith)
 
-cells_end : (g : Figures) (kept size first id index : ℕ) → AreBlank g kept → (index < size → kept ≤ first + index) → (index < size) ⊎ (size ≤ index) → cell_lines_from (size - index) g (first + index) id index ≡ []
-cells_end g kept size first id index blank behind (inl less) = no_cells g kept (size - index) (first + index) id index blank (behind less)
-cells_end g kept size first id index blank behind (inr le) = let none : size - index ≡ 0 = omega arith in ap (λ n. cell_lines_from n g (first + index) id index) none
+over : (g : Figures) (kept size first id index : ℕ) → AreBlank g kept → (index < size → kept ≤ first + index) → (index < size) ⊎ (size ≤ index) → cell_lines_from (size - index) g (first + index) id index ≡ []
+over g kept size first id index blank behind (inl less) = no_cells g kept (size - index) (first + index) id index blank (behind less)
+over g kept size first id index blank behind (inr le) = let none : size - index ≡ 0 = omega arith in ap (λ n. cell_lines_from n g (first + index) id index) none
 
--- a loop over the cells that are kept ends where no more lines are
-pub cells_over : (totals : TotalsState) (size first id index : ℕ) → (index < size → length totals.counts ≤ first + index) → cell_lines_from (size - index) (figures totals) (first + index) id index ≡ []
-cells_over totals size first id index behind = cells_end (figures totals) (length totals.counts) size first id index (blank_behind totals) behind (cases_lt index size)
+-- a loop over the cells of the first slots ends where no more lines are
+pub cells_over : (g : Figures) (kept size first id index : ℕ) → AreBlank g kept → (index < size → kept ≤ first + index) → cell_lines_from (size - index) g (first + index) id index ≡ []
+cells_over g kept size first id index blank behind = over g kept size first id index blank behind (cases_lt index size)
 
 counters_same : (g : Figures) (kept a b : ℕ) (counters : List Counter) → AreBlank g kept → (a ≡ b) ⊎ ((kept ≤ a) × (kept ≤ b)) → cell_lines_of g a counters ≡ cell_lines_of g b counters
 counters_same g kept a b counters blank (inl same) = ap (λ n. cell_lines_of g n counters) same
@@ -60,16 +57,15 @@ same_or_behind kept a b same behind (inl less) = inl (same less)
 same_or_behind kept a b same behind (inr le) = inr (behind le, le)
 
 -- a loop's step: the lines of the counters from one on are its own, and those of the others
-pub counters_step : (totals : TotalsState) (counters : List Counter) (counter : Counter) (i slot next : ℕ) (before pushed : List CellLine) → i < length counters → counter ≡ get_or counters i counter
-    → (slot + counter.size < length totals.counts → next ≡ slot + counter.size) → (length totals.counts ≤ slot + counter.size → length totals.counts ≤ next)
-    → pushed ≡ before ++ cell_lines_from counter.size (figures totals) slot counter.preamble.id 0
-    → pushed ++ cell_lines_of (figures totals) next (drop (i + 1) counters) ≡ before ++ cell_lines_of (figures totals) slot (drop i counters)
-counters_step totals counters counter i slot next before pushed in_range is same behind now =
-    let g : Figures = figures totals in
+pub counters_step : (g : Figures) (kept : ℕ) (counters : List Counter) (counter : Counter) (i slot next : ℕ) (before pushed : List CellLine) → AreBlank g kept → i < length counters → counter ≡ get_or counters i counter
+    → (slot + counter.size < kept → next ≡ slot + counter.size) → (kept ≤ slot + counter.size → kept ≤ next)
+    → pushed ≡ before ++ cell_lines_from counter.size g slot counter.preamble.id 0
+    → pushed ++ cell_lines_of g next (drop (i + 1) counters) ≡ before ++ cell_lines_of g slot (drop i counters)
+counters_step g kept counters counter i slot next before pushed blank in_range is same behind now =
     let own : List CellLine = cell_lines_from counter.size g slot counter.preamble.id 0 in
     let others : List Counter = drop (i + 1) counters in
-    let rest = counters_same g (length totals.counts) next (slot + counter.size) others (blank_behind totals)
-    (same_or_behind (length totals.counts) (slot + counter.size) next same behind (cases_lt (slot + counter.size) (length totals.counts))) in
+    let rest = counters_same g kept next (slot + counter.size) others blank
+    (same_or_behind kept (slot + counter.size) next same behind (cases_lt (slot + counter.size) kept)) in
     let all : drop i counters ≡ counter ∷ others = drop_step counters counter i in_range is in
     ap (λ lines. lines ++ cell_lines_of g next others) now
     ∙ append_assoc before own (cell_lines_of g next others)

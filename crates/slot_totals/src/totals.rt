@@ -1,7 +1,7 @@
 //! What the counters of all slots have counted.
 ghost use Rattle.std.specs.Prelude.{◌≡◌, ◌≤◌, ◌<◌, ◌^◌, ◌+◌, length, OnOk, OnErr};
 ghost use Rattle.switch_spec.specs.Counts.{no_figures, figures_after};
-ghost use Rattle.slot_totals.specs.State.{figures};
+ghost use Rattle.slot_totals.specs.State.{AreBlank, figures};
 
 use crate::counting;
 use crate::figure::{Figure, NOTHING};
@@ -65,16 +65,17 @@ impl Totals {
         Ok(())
     }
 
-    /// How many slots are kept, from the first on: the counters of the others have counted nothing.
-    pub(crate) fn slots(&self) -> u64
+    /// How many slots are kept, from the first on.
+    pub fn slots(&self) -> u64
         ensures slots { result ≡ length self.now.counts }
         ensures few { result ≤ 2 ^ 32 }
+        ensures blank { AreBlank (figures self.now) result }
     {
         self.counts.len() as u64
     }
 
     /// What the counter of a slot has counted.
-    pub(crate) fn figure(&self, slot: u32) -> Figure
+    fn figure(&self, slot: u32) -> Figure
         ensures packets { result.packets ≡ (figures self.now slot).0 }
         ensures bytes { result.bytes ≡ (figures self.now slot).1 }
     {

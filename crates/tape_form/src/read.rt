@@ -1,5 +1,6 @@
 // A tape from a source.
 ghost use Rattle.std.specs.Prelude.{◌≡◌, ◌≤◌, ℕ, List, IfOk, IfErr, OnOk, OnErr, IsErrOf, All, length};
+ghost use Rattle.std.specs.List.{AllByRecursion};
 ghost use Rattle.run_spec.specs.Tape.{IsRecord, tape_bytes};
 ghost use Rattle.sw_edge.specs.Counts.{HasCause};
 ghost use Rattle.tape_form.specs.TapeRead.{InLimits, UnlessNoMemory, outcome, when_whole, when_short, when_bad, refusal, EndsWithin, EndsSo, EndsSoundly, IsTakenFrom, IsReadFrom, IsWholeTape, IsBadAt, IsTooLong, IsAnswerToTape};
@@ -7,6 +8,7 @@ ghost use Rattle.tape_form.specs.TapeRead.{InLimits, UnlessNoMemory, outcome, wh
 use crate::fault::{Ended, TapeFault};
 use crate::limits::{MAX_RECORDS, MAX_TAPE};
 use crate::parse::{ReadFault, tape_at};
+use list_types::List;
 use p4_types::tape::TapeRecord;
 use std::alloc::{AllocError, Global};
 use std::marker::Model;
@@ -56,6 +58,16 @@ impl Tape {
         ensures each { All IsRecord self.now }
     {
         self.records.as_slice()
+    }
+
+    /// The records, which are not copied.
+    #[tactic(auto, using(run_spec::proofs::Standing::all_of, std::proofs::lemmas::List::Elements::recursion_from_All))]
+    pub fn into_records(self) -> List<TapeRecord>
+        ensures value { result ≡ self }
+        ensures limits { InLimits self }
+        ensures each { AllByRecursion IsRecord self }
+    {
+        List::from_vec(self.records)
     }
 }
 

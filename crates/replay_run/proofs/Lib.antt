@@ -1,0 +1,4 @@
+mod Lanes
+mod Lasts
+mod Reports
+mod Sums
