@@ -2,7 +2,7 @@
 ghost use Rattle.std.specs.Prelude.{◌≡◌};
 ghost use Rattle.std.specs.Prelude as spec;
 ghost use Rattle.serde_json.specs.View.{view};
-ghost use Rattle.json_shapes.specs.Shapes.{Reads};
+ghost use Rattle.json_shapes.specs.Shapes.{ReadsExactly, Reads};
 ghost use Rattle.bm_records.specs.Parsers.{extracted_by, extracted, set_of, parser_op_by, parser_op_of, match_text, match_by, match_of, transition_of, state_of, parser_of, deparser_of};
 
 use crate::operations::{self, ParserOpKind};
@@ -10,7 +10,7 @@ use crate::raw::{Deparser, MatchValue, ParseState, Parser, ParserOp, Part, Trans
 use bm_values::kinds::ValueKind;
 use bm_values::{literals, values};
 use json_shapes::shapes::{self, FromJson};
-use json_shapes::{ShapeError, arrays};
+use json_shapes::{OtherShape, ShapeError, arrays};
 use list_types::Text;
 use serde_json::Value;
 use std::alloc::Global;
@@ -87,33 +87,33 @@ impl FromJson for ParserOp {
     }
 }
 
-fn match_text(text: &str) -> Result<MatchValue, ShapeError>
-    ensures { Reads result (match_text text.now) }
+fn match_text(text: &str) -> Result<MatchValue, OtherShape>
+    ensures { ReadsExactly result (match_text text.now) }
 {
     if text == "default" {
         return Ok(MatchValue::Default);
     }
     match literals::literal_text(text.as_bytes()) {
         Some(literal) => Ok(MatchValue::Literal(literal)),
-        None => Err(ShapeError::Shape),
+        None => Err(OtherShape),
     }
 }
 
 #[tactic(auto, unfolding(json_shapes::specs::Shapes::required))]
-fn match_value(value: &Value) -> Result<MatchValue, ShapeError>
-    ensures { Reads result (match_by spec.None (view value.now)) }
+fn match_value(value: &Value) -> Result<MatchValue, OtherShape>
+    ensures { ReadsExactly result (match_by spec.None (view value.now)) }
 {
     let Some(inside) = value.get("value") else {
-        return Err(ShapeError::Shape);
+        return Err(OtherShape);
     };
     match inside.as_str() {
         Some(text) => match_text(text),
-        None => Err(ShapeError::Shape),
+        None => Err(OtherShape),
     }
 }
 
-fn match_by(kind: &Option<Text>, value: &Value) -> Result<MatchValue, ShapeError>
-    ensures { Reads result (match_by kind.now (view value.now)) }
+fn match_by(kind: &Option<Text>, value: &Value) -> Result<MatchValue, OtherShape>
+    ensures { ReadsExactly result (match_by kind.now (view value.now)) }
 {
     match kind {
         None => match_value(value),
@@ -125,7 +125,7 @@ fn match_by(kind: &Option<Text>, value: &Value) -> Result<MatchValue, ShapeError
             } else if kind.as_str() == "parse_vset" {
                 Ok(MatchValue::LeftOut)
             } else {
-                Err(ShapeError::Shape)
+                Err(OtherShape)
             }
         }
     }
@@ -136,7 +136,7 @@ fn match_of(alloc: Global, value: &Value) -> Result<MatchValue, ShapeError>
     ensures { Reads result (match_of (view value.now)) }
 {
     let kind = shapes::unless_absent(alloc, value, "type")?;
-    match_by(&kind, value)
+    Ok(match_by(&kind, value)?)
 }
 
 impl FromJson for Transition {

@@ -1,7 +1,7 @@
 //! Tables, action profiles, conditionals and pipelines.
 ghost use Rattle.std.specs.Prelude.{◌≡◌, length};
 ghost use Rattle.serde_json.specs.View.{view, members_view};
-ghost use Rattle.json_shapes.specs.Shapes.{Reads};
+ghost use Rattle.json_shapes.specs.Shapes.{ReadsExactly, Reads};
 ghost use Rattle.bm_records.specs.Pipelines.{match_kind, key_field_of, table_kind, profile_by, next_table, each_next, next_tables_of, as_many, default_of, table_of, selector_of, profile_of, conditional_of, gress, pipeline_of, sides, pipelines_of};
 
 use crate::raw::{
@@ -9,14 +9,14 @@ use crate::raw::{
     Selector, Table, TableKind,
 };
 use json_shapes::shapes::{self, FromJson};
-use json_shapes::{ShapeError, arrays};
+use json_shapes::{OtherShape, ShapeError, arrays};
 use list_types::{List, Text};
 use p4_types::info::MatchKind;
 use serde_json::{Map, Value};
 use std::alloc::Global;
 
-fn match_kind(text: &str) -> Result<MatchKind, ShapeError>
-    ensures { Reads result (match_kind text.now) }
+fn match_kind(text: &str) -> Result<MatchKind, OtherShape>
+    ensures { ReadsExactly result (match_kind text.now) }
 {
     if text == "exact" {
         Ok(MatchKind::Exact)
@@ -29,7 +29,7 @@ fn match_kind(text: &str) -> Result<MatchKind, ShapeError>
     } else if text == "optional" {
         Ok(MatchKind::Optional)
     } else {
-        Err(ShapeError::Shape)
+        Err(OtherShape)
     }
 }
 
@@ -46,8 +46,8 @@ impl FromJson for KeyField {
     }
 }
 
-fn table_kind(text: &str) -> Result<TableKind, ShapeError>
-    ensures { Reads result (table_kind text.now) }
+fn table_kind(text: &str) -> Result<TableKind, OtherShape>
+    ensures { ReadsExactly result (table_kind text.now) }
 {
     if text == "simple" {
         Ok(TableKind::Simple)
@@ -56,7 +56,7 @@ fn table_kind(text: &str) -> Result<TableKind, ShapeError>
     } else if text == "indirect_ws" {
         Ok(TableKind::IndirectWithSelector)
     } else {
-        Err(ShapeError::Shape)
+        Err(OtherShape)
     }
 }
 
@@ -107,13 +107,13 @@ fn next_tables(alloc: Global, value: &Value) -> Result<List<NextTable>, ShapeErr
     }
 }
 
-fn as_many(ids: &List<u64>, names: &List<Text>) -> Result<(), ShapeError>
-    ensures { Reads result (as_many (length ids.now) (length names.now)) }
+fn as_many(ids: &List<u64>, names: &List<Text>) -> Result<(), OtherShape>
+    ensures { ReadsExactly result (as_many (length ids.now) (length names.now)) }
 {
     if ids.len() == names.len() {
         Ok(())
     } else {
-        Err(ShapeError::Shape)
+        Err(OtherShape)
     }
 }
 
@@ -202,15 +202,15 @@ impl FromJson for Conditional {
     }
 }
 
-fn gress(text: &str) -> Result<Gress, ShapeError>
-    ensures { Reads result (gress text.now) }
+fn gress(text: &str) -> Result<Gress, OtherShape>
+    ensures { ReadsExactly result (gress text.now) }
 {
     if text == "ingress" {
         Ok(Gress::Ingress)
     } else if text == "egress" {
         Ok(Gress::Egress)
     } else {
-        Err(ShapeError::Shape)
+        Err(OtherShape)
     }
 }
 
@@ -236,8 +236,8 @@ impl FromJson for Pipeline {
     }
 }
 
-fn sides(first: Pipeline, second: Pipeline) -> Result<Pipelines, ShapeError>
-    ensures { Reads result (sides first.gress second.gress first second) }
+fn sides(first: Pipeline, second: Pipeline) -> Result<Pipelines, OtherShape>
+    ensures { ReadsExactly result (sides first.gress second.gress first second) }
 {
     match (first.gress, second.gress) {
         (Gress::Ingress, Gress::Egress) => Ok(Pipelines {
@@ -248,7 +248,7 @@ fn sides(first: Pipeline, second: Pipeline) -> Result<Pipelines, ShapeError>
             ingress: second,
             egress: first,
         }),
-        _ => Err(ShapeError::Shape),
+        _ => Err(OtherShape),
     }
 }
 
@@ -261,6 +261,6 @@ impl FromJson for Pipelines {
         arrays::of_count(2, count)?;
         let first = arrays::item_at(alloc, value, 0)?;
         let second = arrays::item_at(alloc, value, 1)?;
-        sides(first, second)
+        Ok(sides(first, second)?)
     }
 }

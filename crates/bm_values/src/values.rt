@@ -1,13 +1,13 @@
 //! Values with a type, and pairs of names.
 ghost use Rattle.std.specs.Prelude.{◌≡◌};
 ghost use Rattle.serde_json.specs.View.{view};
-ghost use Rattle.json_shapes.specs.Shapes.{Reads};
+ghost use Rattle.json_shapes.specs.Shapes.{ReadsExactly, Reads};
 ghost use Rattle.bm_values.specs.Values.{field_name, kind_of, field_by, field_value, header_by, header_value};
 
 use crate::kinds::{self, ValueKind};
 use crate::raw::{FieldName, Part, RawField};
 use json_shapes::shapes::{self, FromJson};
-use json_shapes::{ShapeError, arrays};
+use json_shapes::{OtherShape, ShapeError, arrays};
 use list_types::Text;
 use serde_json::Value;
 use std::alloc::Global;
@@ -28,15 +28,15 @@ impl FromJson for FieldName {
 
 /// The kind of a value with a type; without one, or where it is no text, it is of another shape.
 #[tactic(auto, unfolding(crate::specs::Values::kind_of, json_shapes::specs::Shapes::required))]
-pub fn kind_of(value: &Value) -> Result<ValueKind, ShapeError>
-    ensures { Reads result (kind_of (view value.now)) }
+pub fn kind_of(value: &Value) -> Result<ValueKind, OtherShape>
+    ensures { ReadsExactly result (kind_of (view value.now)) }
 {
     let Some(inside) = value.get("type") else {
-        return Err(ShapeError::Shape);
+        return Err(OtherShape);
     };
     match inside.as_str() {
         Some(kind) => Ok(kinds::value_kind(kind)),
-        None => Err(ShapeError::Shape),
+        None => Err(OtherShape),
     }
 }
 

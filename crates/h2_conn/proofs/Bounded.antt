@@ -39,8 +39,9 @@ use Rattle.h2_conn.specs.Bytes.{preface, settled_by, last_stream, waiting_for_mo
 use Rattle.h2_conn.specs.Sends.{queued_on, sent}
 use Rattle.h2_conn.specs.History.{Turn, step, history}
 use Rattle.h2_conn.specs.History as turns
-use Rattle.h2_conn.specs.Bounds.{waiting_size, load, IsLive, IsWithin, IsBounded, given_by, AlwaysBounded}
+use Rattle.h2_conn.specs.Bounds.{waiting_size, load, IsLive, IsWithin, IsBounded, given_by, waits_in, AlwaysBounded}
 use Rattle.h2_conn.proofs.StreamBounds.{openness, AreFewer, fewer_joined, fewer_changed, fewer_swept, fewer_flushed, load_queued, all_live, is_kept, kept_changed, kept_flushed, kept_swept, kept_found, not_kept}
+use Rattle.h2_conn.proofs.Outcomes.{AllOf, of_unless, of_if, of_behind}
 use Rattle.h2_conn.proofs.TableBounds.{IsSmall, FieldsSmall, block_small}
 
 -- There is room for the stream of a header block that is not whole, or the peer has not ended it.
@@ -54,9 +55,9 @@ pub record Holds (so_far : ℕ) (conn : State) : Type 0 where
   pub table : conn.decoder.max_size ≤ 4096
   pub room : HasRoom conn.block conn.streams
 
-abbrev pub Stays : ℕ → Result (State × Given) H2Code → Type 0
-Stays so_far (Ok x) = Holds so_far x.0
-Stays so_far (Err code) = Unit {0}
+-- they are kept
+abbrev pub HoldsAfter : ℕ → State × Given → Type 0
+HoldsAfter so_far x = Holds so_far x.0
 
 no_block : (block : Option HeaderBlock) (streams : List Stream) → block ≡ None → HasRoom block streams
 no_block None streams e = tt
@@ -91,24 +92,12 @@ free so_far old new none h s fewer live = moved so_far 0 so_far old new (omega a
 
 -- ---- steps
 
-stays_unless : (so_far : ℕ) (b : Bool) (code : H2Code) (taken : Result (State × Given) H2Code) → (b ≡ false → Stays so_far taken) → Stays so_far (unless b code taken)
-stays_unless so_far true code taken k = tt
-stays_unless so_far false code taken k = k refl
-
-stays_if : (so_far : ℕ) (b : Bool) (x y : Result (State × Given) H2Code) → Stays so_far x → Stays so_far y → Stays so_far (if b then x else y)
-stays_if so_far true x y sx sy = sx
-stays_if so_far false x y sx sy = sy
-
-stays_behind : {A : Type 0} → (so_far : ℕ) (read : Result A H2Code) (f : A → Result (State × Given) H2Code) → ((x : A) → read ≡ Ok x → Stays so_far (f x)) → Stays so_far (read >>= f)
-stays_behind so_far (Ok x) f k = k x refl
-stays_behind so_far (Err code) f k = tt
-
 -- what goes out of the streams
 gone_out : (streams : List Stream) (sending : Sending) → AreFewer 0 streams (swept (flushed sending streams).1)
 gone_out streams sending = fewer_joined 0 streams (flushed sending streams).1 (swept (flushed sending streams).1) (fewer_flushed streams sending) (fewer_swept (flushed sending streams).1)
 
 -- one stream changes, and what both sides have ended is let go of
-changed_swept : (change : Stream → Stream) (number : ℕ) → ((s : Stream) → openness (change s) ≤ openness s + 0) → ((s : Stream) → load (change s) ≤ load s + 0) → (streams : List Stream) → AreFewer 0 streams (swept (changed number change streams))
+pub changed_swept : (change : Stream → Stream) (number : ℕ) → ((s : Stream) → openness (change s) ≤ openness s + 0) → ((s : Stream) → load (change s) ≤ load s + 0) → (streams : List Stream) → AreFewer 0 streams (swept (changed number change streams))
 changed_swept change number opens loads streams = fewer_joined 0 streams (changed number change streams) (swept (changed number change streams)) (fewer_changed change 0 number opens loads streams) (fewer_swept (changed number change streams))
 
 flush_holds : (so_far : ℕ) (conn : State) → conn.block ≡ None → Holds so_far conn → Holds so_far (flushing conn)
@@ -131,7 +120,7 @@ other_settled so_far conn h = record {
 
 -- ---- DATA
 
-data_stays : (so_far count number : ℕ) (end_stream : Bool) (bytes : List ℕ) (conn : State) (found : Option Stream) → conn.block ≡ None → Holds so_far conn → Stays so_far (data_of count number end_stream bytes conn found)
+data_stays : (so_far count number : ℕ) (end_stream : Bool) (bytes : List ℕ) (conn : State) (found : Option Stream) → conn.block ≡ None → Holds so_far conn → AllOf (HoldsAfter so_far) (data_of count number end_stream bytes conn found)
 unfolding data_of
 data_stays so_far count number end_stream bytes conn None none h = tt
 data_stays so_far count number end_stream bytes conn (Some stream) none h =
@@ -139,8 +128,8 @@ data_stays so_far count number end_stream bytes conn (Some stream) none h =
     let x : State × Given = (after, given stream.ended (events.Data number bytes) end_stream number) in
     let fewer : AreFewer 0 conn.streams after.streams = changed_swept (received count end_stream) number (λ s. omega arith) (λ s. omega arith) conn.streams in
     let s : Holds so_far after = free so_far conn after none h (record { unread = refl; block = refl; decoder = refl; skipped = refl }) fewer (all_live (changed number (received count end_stream) conn.streams)) in
-    stays_unless so_far stream.peer_ended codes.StreamClosed (unless (nat_lt stream.receive_window count) codes.FlowControlError (Ok x))
-    (λ e. stays_unless so_far (nat_lt stream.receive_window count) codes.FlowControlError (Ok x) (λ f. s))
+    of_unless (HoldsAfter so_far) stream.peer_ended codes.StreamClosed (unless (nat_lt stream.receive_window count) codes.FlowControlError (Ok x))
+    (λ e. of_unless (HoldsAfter so_far) (nat_lt stream.receive_window count) codes.FlowControlError (Ok x) (λ f. s))
 
 -- ---- HEADERS
 
@@ -201,12 +190,12 @@ decoded_small (Ok y) x e s = let same : y ≡ x = cc in rw (← same) s
 decoded_small (Err faults.ListTooLong) x e s = absurd cc
 decoded_small (Err _) x e s = absurd cc
 
-block_stays : (so_far : ℕ) (block : HeaderBlock) (conn : State) → HasRoom (Some block) conn.streams → Holds so_far conn → Stays so_far (block_taken block conn)
+block_stays : (so_far : ℕ) (block : HeaderBlock) (conn : State) → HasRoom (Some block) conn.streams → Holds so_far conn → AllOf (HoldsAfter so_far) (block_taken block conn)
 unfolding block_taken
 block_stays so_far block conn room h =
     let f : List Header × Table → Result (State × Given) H2Code = λ read. Ok (headers_of block read.0 (record conn { block = None; decoder = read.1 }) (stream_at block.stream conn.streams)) in
     let small : FieldsSmall (block_at conn.decoder block.fragment) = block_small conn.decoder block.fragment (record { entries = h.within.entries; max_size = h.table }) in
-    stays_behind so_far (decoded (block_at conn.decoder block.fragment)) f (λ read e.
+    of_behind (HoldsAfter so_far) (decoded (block_at conn.decoder block.fragment)) f (λ read e.
     let s : IsSmall read.1 = decoded_small (block_at conn.decoder block.fragment) read e small in
     let here : State = record conn { block = None; decoder = read.1 } in
     let ready : Holds so_far here = record {
@@ -216,17 +205,17 @@ block_stays so_far block conn room h =
     } in
     headers_hold so_far block read.0 here (stream_at block.stream conn.streams) refl refl room ready)
 
-fragment_stays : (so_far : ℕ) (end_headers : Bool) (block : HeaderBlock) (conn : State) → HasRoom (Some block) conn.streams → Holds so_far conn → Stays so_far (fragment_taken end_headers block conn)
+fragment_stays : (so_far : ℕ) (end_headers : Bool) (block : HeaderBlock) (conn : State) → HasRoom (Some block) conn.streams → Holds so_far conn → AllOf (HoldsAfter so_far) (fragment_taken end_headers block conn)
 unfolding fragment_taken
 fragment_stays so_far end_headers block conn room h =
     let waits : Result (State × Given) H2Code = Ok (record conn { block = Some block }, nothing) in
-    let kept : length block.fragment ≤ 262144 → Stays so_far waits = λ short. record {
+    let kept : length block.fragment ≤ 262144 → AllOf (HoldsAfter so_far) waits = λ short. record {
       within = record { unread = h.within.unread; block = short; entries = h.within.entries; sendable = h.within.sendable; kept = h.within.kept; live = h.within.live; skipped = h.within.skipped; waiting = h.within.waiting };
       table = h.table;
       room = room;
     } in
-    stays_unless so_far (nat_lt 262144 (length block.fragment)) codes.EnhanceYourCalm (if end_headers then block_taken block conn else waits)
-    (λ e. stays_if so_far end_headers (block_taken block conn) waits (block_stays so_far block conn room h) (kept (ltb-false 262144 (length block.fragment) e)))
+    of_unless (HoldsAfter so_far) (nat_lt 262144 (length block.fragment)) codes.EnhanceYourCalm (if end_headers then block_taken block conn else waits)
+    (λ e. of_if (HoldsAfter so_far) end_headers (block_taken block conn) waits (block_stays so_far block conn room h) (kept (ltb-false 262144 (length block.fragment) e)))
 
 skipped_length : (number : ℕ) (conn : State) → length (skipped_before number conn) ≤ length conn.skipped + 1
 skipped_length number conn =
@@ -234,15 +223,15 @@ skipped_length number conn =
     cond_both (nat_lt (next_number conn.greatest) number) (conn.skipped ++ run ∷ []) conn.skipped (λ (x : List Skipped). length x ≤ length conn.skipped + 1)
     (λ e. omega (arith, length-append conn.skipped (run ∷ []))) (λ e. omega arith)
 
-headers_stay : (so_far : ℕ) (end_headers : Bool) (block : HeaderBlock) (conn : State) (found : Option Stream) → stream_at block.stream conn.streams ≡ found → conn.block ≡ None → Holds so_far conn → Stays so_far (headers_taken end_headers block conn found)
+headers_stay : (so_far : ℕ) (end_headers : Bool) (block : HeaderBlock) (conn : State) (found : Option Stream) → stream_at block.stream conn.streams ≡ found → conn.block ≡ None → Holds so_far conn → AllOf (HoldsAfter so_far) (headers_taken end_headers block conn found)
 unfolding headers_taken
 headers_stay so_far end_headers block conn (Some stream) e none h =
-    stays_unless so_far stream.peer_ended codes.StreamClosed (fragment_taken end_headers block conn)
+    of_unless (HoldsAfter so_far) stream.peer_ended codes.StreamClosed (fragment_taken end_headers block conn)
     (λ unended. fragment_stays so_far end_headers block conn (inr (kept_found block.stream conn.streams stream e unended)) h)
 headers_stay so_far end_headers block conn None e none h =
     let begun : State = record conn { greatest = block.stream; skipped = skipped_before block.stream conn } in
-    stays_unless so_far (nat_le block.stream conn.greatest) codes.StreamClosed (unless (is_crowded conn) codes.EnhanceYourCalm (fragment_taken end_headers block begun))
-    (λ new. stays_unless so_far (is_crowded conn) codes.EnhanceYourCalm (fragment_taken end_headers block begun) (λ few.
+    of_unless (HoldsAfter so_far) (nat_le block.stream conn.greatest) codes.StreamClosed (unless (is_crowded conn) codes.EnhanceYourCalm (fragment_taken end_headers block begun))
+    (λ new. of_unless (HoldsAfter so_far) (is_crowded conn) codes.EnhanceYourCalm (fragment_taken end_headers block begun) (λ few.
     let parts = or_parts (nat_le 1000 (length conn.streams)) (nat_le 1000 (length conn.skipped)) few in
     let less : length conn.streams < 1000 = leb-false 1000 (length conn.streams) parts.0 in
     let fewer : length conn.skipped < 1000 = leb-false 1000 (length conn.skipped) parts.1 in
@@ -253,7 +242,7 @@ headers_stay so_far end_headers block conn None e none h =
     } in
     fragment_stays so_far end_headers block begun (inl less) ready))
 
-continuation_stays : (so_far : ℕ) (end_headers : Bool) (fragment : List ℕ) (conn : State) (found : Option HeaderBlock) → conn.block ≡ found → Holds so_far conn → Stays so_far (continuation_taken end_headers fragment conn found)
+continuation_stays : (so_far : ℕ) (end_headers : Bool) (fragment : List ℕ) (conn : State) (found : Option HeaderBlock) → conn.block ≡ found → Holds so_far conn → AllOf (HoldsAfter so_far) (continuation_taken end_headers fragment conn found)
 unfolding continuation_taken
 continuation_stays so_far end_headers fragment conn None e h = tt
 continuation_stays so_far end_headers fragment conn (Some block) e h =
@@ -313,11 +302,11 @@ unfolding settings_in_order
 in_order_sends [] conn = refl
 in_order_sends (setting ∷ settings) conn = sends_behind conn (setting_taken setting conn) (λ after. settings_in_order settings after) (setting_sends setting conn) (λ after. in_order_sends settings after)
 
-stays_after : (so_far : ℕ) (conn : State) (read : Result State H2Code) (f : State → Result (State × Given) H2Code) → OnlySends conn read → ((outgoing : Sending) → Stays so_far (f (record conn { outgoing = outgoing }))) → Stays so_far (read >>= f)
+stays_after : (so_far : ℕ) (conn : State) (read : Result State H2Code) (f : State → Result (State × Given) H2Code) → OnlySends conn read → ((outgoing : Sending) → AllOf (HoldsAfter so_far) (f (record conn { outgoing = outgoing }))) → AllOf (HoldsAfter so_far) (read >>= f)
 stays_after so_far conn (Ok after) f s k = rw (ap f s) (k after.outgoing)
 stays_after so_far conn (Err code) f s k = tt
 
-settings_stay : (so_far : ℕ) (ack : Bool) (settings : List Setting) (conn : State) → conn.block ≡ None → Holds so_far conn → Stays so_far (settings_taken ack settings conn)
+settings_stay : (so_far : ℕ) (ack : Bool) (settings : List Setting) (conn : State) → conn.block ≡ None → Holds so_far conn → AllOf (HoldsAfter so_far) (settings_taken ack settings conn)
 unfolding settings_taken
 settings_stay so_far true settings conn none h = other_settled so_far conn h
 settings_stay so_far false settings conn none h =
@@ -331,13 +320,13 @@ settings_stay so_far false settings conn none h =
 
 -- ---- WINDOW_UPDATE
 
-connection_stays : (so_far count : ℕ) (conn : State) → conn.block ≡ None → Holds so_far conn → Stays so_far (connection_granted count conn)
+connection_stays : (so_far count : ℕ) (conn : State) → conn.block ≡ None → Holds so_far conn → AllOf (HoldsAfter so_far) (connection_granted count conn)
 unfolding connection_granted
 connection_stays so_far count conn none h =
     let wider : State = record conn { outgoing = record conn.outgoing { window = conn.outgoing.window + count } } in
-    stays_unless so_far (nat_lt max_window (conn.outgoing.window + count)) codes.FlowControlError (Ok (flushing wider, nothing)) (λ e. flush_holds so_far wider none (other_outgoing so_far conn wider.outgoing h))
+    of_unless (HoldsAfter so_far) (nat_lt max_window (conn.outgoing.window + count)) codes.FlowControlError (Ok (flushing wider, nothing)) (λ e. flush_holds so_far wider none (other_outgoing so_far conn wider.outgoing h))
 
-stream_stays : (so_far number count : ℕ) (conn : State) (found : Option Stream) → conn.block ≡ None → Holds so_far conn → Stays so_far (stream_granted number count conn found)
+stream_stays : (so_far number count : ℕ) (conn : State) (found : Option Stream) → conn.block ≡ None → Holds so_far conn → AllOf (HoldsAfter so_far) (stream_granted number count conn found)
 unfolding stream_granted
 stream_stays so_far number count conn None none h = h
 stream_stays so_far number count conn (Some stream) none h =
@@ -345,7 +334,7 @@ stream_stays so_far number count conn (Some stream) none h =
     let fewer : AreFewer 0 conn.streams (flushing wider).streams = fewer_joined 0 conn.streams wider.streams (flushing wider).streams (fewer_changed (granted count) 0 number (λ s. omega arith) (λ s. omega arith) conn.streams) (gone_out wider.streams conn.outgoing) in
     let s : Holds so_far (flushing wider) = free so_far conn (flushing wider) none h (record { unread = refl; block = refl; decoder = refl; skipped = refl }) fewer (all_live (flushed conn.outgoing wider.streams).1) in
     let wide = is_too_wide conn.outgoing.initial_window (granted count stream) in
-    stays_if so_far stream.ended (Ok (conn, nothing)) (unless wide codes.FlowControlError (Ok (flushing wider, nothing))) h (stays_unless so_far wide codes.FlowControlError (Ok (flushing wider, nothing)) (λ e. s))
+    of_if (HoldsAfter so_far) stream.ended (Ok (conn, nothing)) (unless wide codes.FlowControlError (Ok (flushing wider, nothing))) h (of_unless (HoldsAfter so_far) wide codes.FlowControlError (Ok (flushing wider, nothing)) (λ e. s))
 
 ping_holds : (so_far : ℕ) (ack : Bool) (opaque_data : ℕ) (conn : State) → Holds so_far conn → Holds so_far (ping_taken ack opaque_data conn)
 ping_holds so_far true opaque_data conn h = h
@@ -353,7 +342,7 @@ ping_holds so_far false opaque_data conn h = other_outgoing so_far conn (answeri
 
 -- ---- a frame
 
-acted_stays : (so_far count : ℕ) (frame : Frame) (conn : State) → conn.block ≡ None → Holds so_far conn → Stays so_far (acted count frame conn)
+acted_stays : (so_far count : ℕ) (frame : Frame) (conn : State) → conn.block ≡ None → Holds so_far conn → AllOf (HoldsAfter so_far) (acted count frame conn)
 unfolding acted
 acted_stays so_far count (frames.Data stream end_stream bytes) conn none h = data_stays so_far count stream end_stream bytes conn (stream_at stream conn.streams) none h
 acted_stays so_far count (frames.Headers stream end_stream end_headers priority fragment) conn none h = headers_stay so_far end_headers (record { stream = stream; end_stream = end_stream; fragment = fragment }) conn (stream_at stream conn.streams) refl none h
@@ -364,7 +353,7 @@ acted_stays so_far count (frames.PushPromise stream end_headers promised_stream 
 acted_stays so_far count (frames.Ping ack opaque_data) conn none h = ping_holds so_far ack opaque_data conn h
 acted_stays so_far count (frames.GoAway last_stream error_code debug_data) conn none h = h
 acted_stays so_far count (frames.WindowUpdate stream increment) conn none h =
-    stays_if so_far (stream == 0) (connection_granted increment conn) (stream_granted stream increment conn (stream_at stream conn.streams)) (connection_stays so_far increment conn none h) (stream_stays so_far stream increment conn (stream_at stream conn.streams) none h)
+    of_if (HoldsAfter so_far) (stream == 0) (connection_granted increment conn) (stream_granted stream increment conn (stream_at stream conn.streams)) (connection_stays so_far increment conn none h) (stream_stays so_far stream increment conn (stream_at stream conn.streams) none h)
 acted_stays so_far count (frames.Continuation stream end_headers fragment) conn none h = continuation_stays so_far end_headers fragment conn conn.block refl h
 acted_stays so_far count (frames.Unknown kind flags stream payload) conn none h = h
 
@@ -394,21 +383,21 @@ read_frame : (b : Bool) (x frame : Frame) → unless b codes.ProtocolError (Ok x
 read_frame true x frame e = absurd cc
 read_frame false x frame e = cc
 
-continuing_stays : (so_far count : ℕ) (frame : Frame) (stream : ℕ) (end_headers : Bool) (fragment : List ℕ) (conn : State) → frame ≡ frames.Continuation stream end_headers fragment → Holds so_far conn → Stays so_far (acted count frame conn)
+continuing_stays : (so_far count : ℕ) (frame : Frame) (stream : ℕ) (end_headers : Bool) (fragment : List ℕ) (conn : State) → frame ≡ frames.Continuation stream end_headers fragment → Holds so_far conn → AllOf (HoldsAfter so_far) (acted count frame conn)
 unfolding acted
 continuing_stays so_far count frame stream end_headers fragment conn e h = rw e (continuation_stays so_far end_headers fragment conn conn.block refl h)
 
-taken_stays : (so_far : ℕ) (head : Head) (payload : List ℕ) (frame : Frame) (conn : State) (found : Option HeaderBlock) → conn.block ≡ found → is_misplaced head conn ≡ false → frame_at head payload ≡ Ok frame → Holds so_far conn → Stays so_far (acted head.length frame conn)
+taken_stays : (so_far : ℕ) (head : Head) (payload : List ℕ) (frame : Frame) (conn : State) (found : Option HeaderBlock) → conn.block ≡ found → is_misplaced head conn ≡ false → frame_at head payload ≡ Ok frame → Holds so_far conn → AllOf (HoldsAfter so_far) (acted head.length frame conn)
 taken_stays so_far head payload frame conn None e placed read h = acted_stays so_far head.length frame conn e h
 taken_stays so_far head payload frame conn (Some block) e placed read h =
     let nine = inside_block head conn block e placed in
     let is = read_frame (head.stream == 0) (frames.Continuation head.stream (has head.flags end_headers_flag) payload) frame (sym (continuation_only head payload nine) ∙ read) in
     continuing_stays so_far head.length frame head.stream (has head.flags end_headers_flag) payload conn is h
 
-frame_stays : (so_far : ℕ) (head : Head) (payload : List ℕ) (conn : State) → Holds so_far conn → Stays so_far (frame_taken head payload conn)
+frame_stays : (so_far : ℕ) (head : Head) (payload : List ℕ) (conn : State) → Holds so_far conn → AllOf (HoldsAfter so_far) (frame_taken head payload conn)
 unfolding frame_taken
 frame_stays so_far head payload conn h =
-    stays_behind so_far (judged (is_misplaced head conn) (frame_at head payload)) (λ frame. acted head.length frame conn)
+    of_behind (HoldsAfter so_far) (judged (is_misplaced head conn) (frame_at head payload)) (λ frame. acted head.length frame conn)
     (λ frame e. let both = judged_is (is_misplaced head conn) (frame_at head payload) frame e in taken_stays so_far head payload frame conn conn.block refl both.0 both.1 h)
 
 -- ---- bytes
@@ -422,7 +411,7 @@ abbrev Settled : ℕ → Result (State × Given) Breach → Type 0
 Settled so_far (Ok x) = Holds so_far x.0
 Settled so_far (Err breach) = Unit {0}
 
-settled_from : (so_far last : ℕ) (taken : Result (State × Given) H2Code) → Stays so_far taken → Settled so_far (settled_by last taken)
+settled_from : (so_far last : ℕ) (taken : Result (State × Given) H2Code) → AllOf (HoldsAfter so_far) taken → Settled so_far (settled_by last taken)
 settled_from so_far last (Ok x) s = s
 settled_from so_far last (Err code) s = tt
 
@@ -534,16 +523,19 @@ step_holds so_far phase (turns.HeadersSent stream headers end_stream) h = sent_h
 step_holds so_far phase (turns.DataSent stream bytes) h = sent_holds so_far stream (waitings.Data bytes) false phase h
 step_holds so_far phase turns.OutputTaken h = none_more so_far (without_output phase) (taken_holds so_far phase h)
 
-bounded_at : (so_far total : ℕ) (phase : Phase) → so_far ≡ total → HoldsOpen so_far phase → IsBounded total phase
-bounded_at so_far total (phases.Open conn) e h = rw (← e) h.within
-bounded_at so_far total (phases.Broken code output) e h = tt
-bounded_at so_far total phases.OutOfMemory e h = tt
+counted : (so_far total : ℕ) (phase : Phase) → so_far ≡ total → HoldsOpen so_far phase → HoldsOpen total phase
+counted so_far total phase e h = rw (← e) h
 
-history_bounded : (past : List Turn) (so_far total : ℕ) (phase : Phase) → so_far + sum_by given_by past ≡ total → HoldsOpen so_far phase → IsBounded total (history phase past).0
+is_bounded : (so_far : ℕ) (phase : Phase) → HoldsOpen so_far phase → IsBounded so_far phase
+is_bounded so_far (phases.Open conn) h = h.within
+is_bounded so_far (phases.Broken code output) h = tt
+is_bounded so_far phases.OutOfMemory h = tt
+
+history_holds : (past : List Turn) (so_far total : ℕ) (phase : Phase) → so_far + sum_by given_by past ≡ total → HoldsOpen so_far phase → HoldsOpen total (history phase past).0
 unfolding history
-history_bounded [] so_far total phase e h = bounded_at so_far total phase (omega (arith, e)) h
-history_bounded (turn ∷ past) so_far total phase e h =
-    history_bounded past (so_far + given_by turn) total (step phase turn).0 (omega (arith, e, sum_by-cons given_by turn past)) (step_holds so_far phase turn h)
+history_holds [] so_far total phase e h = counted so_far total phase (omega (arith, e)) h
+history_holds (turn ∷ past) so_far total phase e h =
+    history_holds past (so_far + given_by turn) total (step phase turn).0 (omega (arith, e, sum_by-cons given_by turn past)) (step_holds so_far phase turn h)
 
 opening_holds : HoldsOpen 0 opening
 opening_holds = record {
@@ -552,5 +544,19 @@ opening_holds = record {
   room = tt;
 }
 
+-- what waits counts as given
+from_here : (so_far : ℕ) (phase : Phase) → HoldsOpen so_far phase → HoldsOpen (waits_in phase) phase
+from_here so_far (phases.Open conn) h = record {
+  within = record { unread = h.within.unread; block = h.within.block; entries = h.within.entries; sendable = h.within.sendable; kept = h.within.kept; live = h.within.live; skipped = h.within.skipped; waiting = omega arith };
+  table = h.table;
+  room = h.room;
+}
+from_here so_far (phases.Broken code output) h = tt
+from_here so_far phases.OutOfMemory h = tt
+
 pub always_bounded : AlwaysBounded
-always_bounded past = history_bounded past 0 (sum_by given_by past) opening (omega arith) opening_holds
+always_bounded past since =
+    let there : Phase = (history opening past).0 in
+    let total = waits_in there + sum_by given_by since in
+    let h = history_holds past 0 (sum_by given_by past) opening (omega arith) opening_holds in
+    is_bounded total (history there since).0 (history_holds since (waits_in there) total there refl (from_here (sum_by given_by past) there h))

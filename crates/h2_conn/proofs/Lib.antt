@@ -9,3 +9,6 @@ pub mod StreamBounds
 pub mod Apart
 pub mod TableBounds
 pub mod Bounded
+pub mod Outcomes
+pub mod OutputSizes
+pub mod OutputBounds

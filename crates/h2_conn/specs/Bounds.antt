@@ -1,5 +1,5 @@
 -- What a connection keeps at most, whatever its peer sends (RFC 9113, sections 4.2, 5.1.2 and 10.5, and this project's profile).
-use Rattle.std.specs.Prelude.{◌≡◌, ◌≤◌, ℕ, ◌+◌, false, List, [], length, Option, Some, None, All, sum_by}
+use Rattle.std.specs.Prelude.{◌≡◌, ◌≤◌, ℕ, ◌+◌, ◌*◌, false, List, [], length, Option, Some, None, All, sum_by}
 use Rattle.hpack_tables.specs.Tables.{entry_size}
 use Rattle.hpack_tables.specs.Writing.{block_bytes}
 use Rattle.h2_streams.specs.declared.stream.Stream.{Stream}
@@ -58,6 +58,27 @@ given_by (turns.HeadersSent stream headers end_stream) = 1 + length (block_bytes
 given_by (turns.DataSent stream bytes) = 1 + length bytes
 given_by turns.OutputTaken = 0
 
--- Whatever happens to a connection, what it keeps has limits, and of what was given to it to send no more waits.
+-- how much waits on the streams of a connection
+abbrev pub waits_in : Phase → ℕ
+waits_in (phases.Open conn) = sum_by load conn.streams
+waits_in (phases.Broken code output) = 0
+waits_in phases.OutOfMemory = 0
+
+-- Whatever happens to a connection, what it keeps has limits. From any point on no more waits than did then, and what is given to it to send.
 abbrev pub AlwaysBounded : Type 0
-AlwaysBounded = (past : List Turn) → IsBounded (sum_by given_by past) (history opening past).0
+AlwaysBounded = (past since : List Turn) → IsBounded (waits_in (history opening past).0 + sum_by given_by since) (history (history opening past).0 since).0
+
+-- How many bytes a connection may have to send of what it holds: those that are to be sent; twelve times what waits, since a byte may go out in a frame of its own behind a head of nine, and a header block behind an update of three; thrice the bytes of a frame that is not whole, since one of ten bytes may be answered with 26; and the 17 of GOAWAY.
+abbrev pub to_send : Phase → ℕ
+to_send (phases.Open conn) = length conn.outgoing.output + 12 * sum_by load conn.streams + 3 * length conn.unread + 17
+to_send (phases.Broken code output) = length output
+to_send phases.OutOfMemory = 0
+
+-- how many more it may have to send for this
+abbrev pub sent_for : Turn → ℕ
+sent_for (turns.Received bytes) = 3 * length bytes
+sent_for turn = 12 * given_by turn
+
+-- From any point on a connection has to send no more than it had then, and what is sent for the bytes that come and for what it is given to send, whatever its peer sends. Bytes that are taken are no longer among them.
+abbrev pub OutputBounded : Type 0
+OutputBounded = (past since : List Turn) → to_send (history (history opening past).0 since).0 ≤ to_send (history opening past).0 + sum_by sent_for since

@@ -1,5 +1,6 @@
 //! What a whole frame does.
-ghost use Rattle.std.specs.Prelude.{◌≡◌, ◌||◌, OnOk, Ok, Err, length};
+ghost use Rattle.std.specs.Prelude.{◌≡◌, ◌+◌, ◌≤◌, ◌||◌, OnOk, Ok, Err, length, take, drop};
+ghost use Rattle.h2_frames.specs.Reading.{head_at};
 ghost use Rattle.h2_streams.specs.Streams.{stream_at, received, changed, swept};
 ghost use Rattle.h2_conn.specs.Frames.{Takes, given, window_given, data_of, reset_taken, acted, frame_taken};
 
@@ -8,7 +9,8 @@ use crate::headers::{continuation, given, headers};
 use crate::placing::{is_misplaced, judged};
 use crate::settings::{grant_connection, grant_stream, ping, settings};
 use crate::state::{HeaderBlock, State};
-use h2_frames::{Frame, H2Code, Head, read_gathered, read_payload};
+use crate::unread::Unread;
+use h2_frames::{Frame, H2Code, Head, read_payload};
 use h2_streams::Outgoing;
 use list_types::{ByteList, NoMemory, Refusal};
 use std::alloc::Global;
@@ -152,18 +154,19 @@ pub(crate) fn take_frame(
     act(alloc, conn, head.length, frame)
 }
 
-/// The same of a payload that came in pieces, which its caller gives away.
+/// The same of a frame that came in pieces, the first of the bytes that are given away.
 #[tactic(auto, unfolding(crate::specs::Frames::frame_taken))]
 pub(crate) fn take_gathered_frame(
     alloc: Global,
     conn: &mut State,
     head: &Head,
-    payload: ByteList,
+    unread: Unread,
 ) -> Result<Given, Refusal<H2Code>>
-    requires { length payload ≡ head.now.length }
-    ensures { Takes result conn.old conn.new (frame_taken head.now payload conn.old) }
+    requires first { head.now ≡ head_at (take 9 unread) }
+    requires whole { 9 + head.now.length ≤ length unread }
+    ensures { Takes result conn.old conn.new (frame_taken head.now (take head.now.length (drop 9 unread)) conn.old) }
 {
     let misplaced = is_misplaced(head, conn);
-    let frame = judged(misplaced, read_gathered(alloc, head, payload))?;
+    let frame = judged(misplaced, unread.into_frame(alloc, head))?;
     act(alloc, conn, head.length, frame)
 }

@@ -11,7 +11,7 @@ use crate::event::{Given, H2Event, nothing};
 use crate::state::State;
 use crate::unread::{Unread, head_of};
 use h2_frames::{H2Code, Head};
-use list_types::{ByteList, List, NoMemory, Refusal};
+use list_types::{List, NoMemory, Refusal};
 use std::alloc::Global;
 
 // The bytes with which a client begins (RFC 9113, section 3.4).
@@ -107,13 +107,14 @@ fn take_gathered(
     alloc: Global,
     conn: &mut State,
     head: &Head,
-    payload: ByteList,
+    unread: Unread,
 ) -> Result<Given, Refusal<Breach>>
-    requires { length payload ≡ head.now.length }
-    ensures { Settles result conn.old conn.new (settled_by (last_stream head.now conn.old) (frame_taken head.now payload conn.old)) }
+    requires first { head.now ≡ head_at (take 9 unread) }
+    requires whole { 9 + head.now.length ≤ length unread }
+    ensures { Settles result conn.old conn.new (settled_by (last_stream head.now conn.old) (frame_taken head.now (take head.now.length (drop 9 unread)) conn.old)) }
 {
     let last_stream = last_stream(head, conn);
-    match take_gathered_frame(alloc, conn, head, payload) {
+    match take_gathered_frame(alloc, conn, head, unread) {
         Ok(given) => Ok(given),
         Err(Refusal::NoMemory) => Err(Refusal::NoMemory),
         Err(Refusal::For(code)) => Err(Refusal::For(Breach { code, last_stream })),
@@ -139,7 +140,7 @@ fn take_frame_kept(alloc: Global, conn: &mut State) -> Result<Given, Refusal<Bre
         return Ok(nothing());
     }
     let unread = std::mem::replace(&mut conn.unread, Unread::new(alloc));
-    take_gathered(alloc, conn, &head, unread.into_payload(length))
+    take_gathered(alloc, conn, &head, unread)
 }
 
 // The bytes that are kept, once more of them have come.

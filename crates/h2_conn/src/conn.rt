@@ -93,8 +93,8 @@ fn queue_open(
 
 /// The connection of a server. A contract sees whether it goes on, and what it is. Where there is no
 /// memory for a call, the connection is lost: each later call finds none either. One that a breach has
-/// ended asks for no memory. What it keeps has limits (`laws::always_bounded`), but for the bytes that
-/// are to be sent: they grow until they are taken.
+/// ended asks for no memory. What it keeps has limits (`laws::always_bounded`), and what is to be sent
+/// grows only by the bytes that come and by what it is given to send (`laws::output_bounded`).
 #[derive(Drop)]
 pub struct Conn {
     phase: Phase,
@@ -123,8 +123,8 @@ impl Conn {
     /// The next bytes of the peer: the events of all bytes so far less those given before, however
     /// the bytes are cut, and the code of the first breach of a connection rule. After a breach the
     /// code is answered again, and no event; GOAWAY is the last of what is to be sent. A frame that is
-    /// whole in a piece is read where it stands, and one that comes in pieces is gathered. Beside that
-    /// the payload of DATA is copied once, and where it was gathered without padding not at all.
+    /// whole in a piece is read where it stands, and one that comes in pieces is gathered. So the payload
+    /// of DATA is copied once: into its event, or where it is gathered, which then becomes the event.
     pub fn feed(
         &mut self,
         alloc: Global,

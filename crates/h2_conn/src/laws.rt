@@ -1,6 +1,6 @@
 //! Laws of a connection, each the contract of a function that does nothing.
 ghost use Rattle.h2_conn.specs.Bytes.{AnyCut};
-ghost use Rattle.h2_conn.specs.Bounds.{AlwaysBounded};
+ghost use Rattle.h2_conn.specs.Bounds.{AlwaysBounded, OutputBounded};
 ghost use Rattle.h2_conn.specs.History.{AnyPieces, WholeFrame, WholeFrames};
 
 /// Cutting bytes in two changes nothing.
@@ -23,8 +23,16 @@ pub fn whole_frames()
     ensures { WholeFrames }
 {}
 
-/// What a connection keeps has limits, whatever happens to it; and of what it was given to send, no
-/// more waits.
+/// What a connection keeps has limits, whatever happens to it. What waits for the peer's windows grows
+/// only by what it is given to send, never by what its peer sends.
 pub fn always_bounded()
     ensures { AlwaysBounded }
+{}
+
+/// The bytes that are to be sent have limits too, from any point of a connection on. Where the output
+/// was taken they are at most twelve times what waited then, in bytes and messages, and 17 for GOAWAY;
+/// thrice the bytes that came since, and those of a frame that was not whole; and twelve times what it
+/// was given to send since.
+pub fn output_bounded()
+    ensures { OutputBounded }
 {}

@@ -61,6 +61,10 @@ unpadded fixed flags payload =
 abbrev pub priority_at : List ℕ → StreamPriority
 priority_at bytes = record { exclusive = not (nat_lt (number_at 0 bytes) (2 ^ 31)); stream_dependency = low_31_at 0 bytes; weight = slice_index bytes 4 }
 
+-- the head is of DATA with padding
+abbrev pub is_padded_data : Head → Bool
+is_padded_data head = head.kind == 0 && has head.flags padded_flag
+
 -- DATA (section 6.1)
 unfoldable pub data_at : Head → List ℕ → Result Frame H2Code
 data_at head payload = do

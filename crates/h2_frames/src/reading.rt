@@ -1,7 +1,7 @@
 //! Reading the payload of a frame by its head.
-ghost use Rattle.std.specs.Prelude.{◌≡◌, ◌+◌, ◌*◌, ◌/◌, ◌%◌, ◌^◌, ◌<◌, ◌≤◌, length, false, Ok, IfOk};
+ghost use Rattle.std.specs.Prelude.{◌≡◌, ◌+◌, ◌*◌, ◌/◌, ◌%◌, ◌^◌, ◌<◌, ◌≤◌, ◌∷◌, length, true, false, Ok, IfOk};
 ghost use Rattle.std.specs.List.{list_any};
-ghost use Rattle.h2_frames.specs.Reading.{Gives, GivesExactly, has, number_at, low_31_at, unpadded, priority_at, setting_at, settings_in, unknown_at, breaks_protocol, breaks_flow_control, checked, data_at, headers_at, priority_frame_at, rst_stream_at, settings_at, push_promise_at, ping_at, goaway_at, window_update_at, continuation_at, frame_at};
+ghost use Rattle.h2_frames.specs.Reading.{Gives, GivesExactly, has, number_at, low_31_at, unpadded, priority_at, is_padded_data, setting_at, settings_in, unknown_at, breaks_protocol, breaks_flow_control, checked, data_at, headers_at, priority_frame_at, rst_stream_at, settings_at, push_promise_at, ping_at, goaway_at, window_update_at, continuation_at, frame_at};
 ghost use Rattle.h2_frames.specs.Codes.{padded_flag};
 ghost use Rattle.h2_frames.specs.Layout.{payload_of};
 ghost use Rattle.h2_frames.specs.Laws.{NumbersFit};
@@ -396,4 +396,32 @@ pub fn read_gathered(alloc: Global, head: &Head, bytes: ByteList) -> Result<Fram
         return Ok(gathered_data(head, bytes)?);
     }
     frame(alloc, head, bytes.as_slice())
+}
+
+/// The head is of DATA with padding.
+pub fn is_padded_data(head: &Head) -> bool
+    ensures { result ≡ is_padded_data head.now }
+{
+    head.kind == 0 && has(head.flags, PADDED)
+}
+
+/// DATA with padding, whose payload its caller gives away in two parts: the byte that tells how long the
+/// padding is, and what is behind it. The data is not copied.
+#[tactic(auto, unfolding(crate::specs::Reading::frame_at, crate::specs::Reading::data_at, crate::specs::Reading::unpadded))]
+pub fn read_padded_data(head: &Head, padding: u8, rest: ByteList) -> Result<Frame, H2Code>
+    requires { is_padded_data head.now ≡ true }
+    ensures { GivesExactly (λ x. x) result (frame_at head.now (padding ∷ rest)) }
+{
+    let padding = padding as usize;
+    let count = rest.len();
+    if count < padding || head.stream == 0 {
+        return Err(H2Code::ProtocolError);
+    }
+    let mut data = rest.into_vec();
+    data.truncate(count - padding);
+    Ok(Frame::Data {
+        stream: head.stream,
+        end_stream: has(head.flags, END_STREAM),
+        data: ByteList::from_vec(data),
+    })
 }

@@ -2,6 +2,7 @@
 use Rattle.std.specs.Prelude.{◌≡◌, ℕ, Bool, true, false, if◌then◌else◌, unwrap_or, option_map, List, [], ◌∷◌, Result, Ok, Err, Option, Some, None, ⊤}
 use Rattle.serde_json.specs.Data.{Data, null, boolean, number, string, array, object, Items, no_items, item}
 use Rattle.serde_json.specs.Find.{get, as_array, as_number, as_u64}
+use Rattle.json_shapes.specs.declared.errors.OtherShape.{OtherShape}
 use Rattle.json_shapes.specs.declared.errors.ShapeError.{ShapeError}
 use Rattle.json_shapes.specs.declared.errors.ShapeError.TheVariants.{NoMemory, Shape}
 
@@ -99,6 +100,11 @@ Refuses Shape read = read ≡ None
 abbrev pub Reads : {A : Type 0} → Result A ShapeError → Option A → Type 0
 Reads (Ok x) read = read ≡ Some x
 Reads (Err e) read = Refuses e read
+
+-- the answer is what is read, and the refusal that there is nothing
+abbrev pub ReadsExactly : {A : Type 0} → Result A OtherShape → Option A → Type 0
+ReadsExactly (Ok x) read = read ≡ Some x
+ReadsExactly (Err _) read = read ≡ None
 
 -- what stands behind the call is what is read, unless there is no memory
 abbrev pub Extends : {A : Type 0} → Result ⊤ ShapeError → A → Option A → Type 0

@@ -1,22 +1,22 @@
 //! Arrays of a known number of items.
 ghost use Rattle.std.specs.Prelude.{◌≡◌, Some};
 ghost use Rattle.serde_json.specs.View.{view};
-ghost use Rattle.json_shapes.specs.Shapes.{Reads};
+ghost use Rattle.json_shapes.specs.Shapes.{ReadsExactly, Reads};
 ghost use Rattle.json_shapes.specs.Arrays.{item_count, item_at, of_count, only_of};
 
-use crate::errors::ShapeError;
+use crate::errors::{OtherShape, ShapeError};
 use crate::shapes::FromJson;
 use serde_json::Value;
 use std::alloc::Global;
 
 /// How many items an array has.
 #[tactic(auto, unfolding(crate::specs::Arrays::item_count), using(crate::proofs::Counts::count_of_view))]
-pub fn item_count(value: &Value) -> Result<usize, ShapeError>
-    ensures { Reads result (item_count (view value.now)) }
+pub fn item_count(value: &Value) -> Result<usize, OtherShape>
+    ensures { ReadsExactly result (item_count (view value.now)) }
 {
     match value.as_array() {
         Some(items) => Ok(items.len()),
-        None => Err(ShapeError::Shape),
+        None => Err(OtherShape),
     }
 }
 
@@ -32,13 +32,13 @@ pub fn item_at<T: FromJson>(alloc: Global, value: &Value, place: usize) -> Resul
 }
 
 /// Refuses another number of items than is wanted.
-pub fn of_count(wanted: usize, count: usize) -> Result<(), ShapeError>
-    ensures { Reads result (of_count wanted count (Some tt)) }
+pub fn of_count(wanted: usize, count: usize) -> Result<(), OtherShape>
+    ensures { ReadsExactly result (of_count wanted count (Some tt)) }
 {
     if count == wanted {
         Ok(())
     } else {
-        Err(ShapeError::Shape)
+        Err(OtherShape)
     }
 }
 

@@ -12,6 +12,18 @@ pub enum ShapeError {
     Shape,
 }
 
+/// A member is missing or of another shape.
+#[derive(Clone, Copy, Debug)]
+pub struct OtherShape;
+
+impl From<OtherShape> for ShapeError {
+    ghost from_gives = { λ _ e. e ≡ shape_error.Shape };
+
+    fn from(_: OtherShape) -> ShapeError {
+        ShapeError::Shape
+    }
+}
+
 impl From<NoMemory> for ShapeError {
     ghost from_gives = { λ _ e. e ≡ shape_error.NoMemory };
 

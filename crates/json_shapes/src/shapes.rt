@@ -4,9 +4,9 @@ ghost use Rattle.std.specs.Prelude as spec;
 ghost use Rattle.serde_json.specs.Data.{Data};
 ghost use Rattle.serde_json.specs.Find.{as_null, as_str, as_bool};
 ghost use Rattle.serde_json.specs.View.{view, items_view};
-ghost use Rattle.json_shapes.specs.Shapes.{Reads, each_item, list_of, natural_of, required, nullable, optional, list_or_empty, unless_absent, list_unless_absent, nothing_in, has_items, filled};
+ghost use Rattle.json_shapes.specs.Shapes.{ReadsExactly, Reads, each_item, list_of, natural_of, required, nullable, optional, list_or_empty, unless_absent, list_unless_absent, nothing_in, has_items, filled};
 
-use crate::errors::ShapeError;
+use crate::errors::{OtherShape, ShapeError};
 use list_types::{List, Text};
 use serde_json::Value;
 use std::alloc::Global;
@@ -136,18 +136,18 @@ pub fn list_or_empty<T: FromJson>(
 
 /// A member that is null.
 #[tactic(auto, unfolding(crate::specs::Shapes::required))]
-pub fn null(value: &Value, name: &str) -> Result<(), ShapeError>
-    ensures { Reads result (required as_null name.now (view value.now)) }
+pub fn null(value: &Value, name: &str) -> Result<(), OtherShape>
+    ensures { ReadsExactly result (required as_null name.now (view value.now)) }
 {
     match value.get(name) {
         Some(inside) => {
             if inside.is_null() {
                 Ok(())
             } else {
-                Err(ShapeError::Shape)
+                Err(OtherShape)
             }
         }
-        None => Err(ShapeError::Shape),
+        None => Err(OtherShape),
     }
 }
 
@@ -196,11 +196,11 @@ pub fn list_unless_absent<T: FromJson>(
 
 /// A list that is absent or empty.
 #[tactic(auto, unfolding(crate::specs::Shapes::nothing_in))]
-pub fn nothing_in(value: &Value, name: &str) -> Result<(), ShapeError>
-    ensures { Reads result (nothing_in name.now (view value.now)) }
+pub fn nothing_in(value: &Value, name: &str) -> Result<(), OtherShape>
+    ensures { ReadsExactly result (nothing_in name.now (view value.now)) }
 {
     if has_items(value, name) {
-        return Err(ShapeError::Shape);
+        return Err(OtherShape);
     }
     match value.get(name) {
         None => Ok(()),
@@ -208,7 +208,7 @@ pub fn nothing_in(value: &Value, name: &str) -> Result<(), ShapeError>
             if inside.is_array() {
                 Ok(())
             } else {
-                Err(ShapeError::Shape)
+                Err(OtherShape)
             }
         }
     }
@@ -230,8 +230,8 @@ pub fn has_items(value: &Value, name: &str) -> bool
 
 /// Whether there is a list with an item, where a list stands there at all.
 #[tactic(auto, unfolding(crate::specs::Shapes::filled))]
-pub fn filled(value: &Value, name: &str) -> Result<bool, ShapeError>
-    ensures { Reads result (filled name.now (view value.now)) }
+pub fn filled(value: &Value, name: &str) -> Result<bool, OtherShape>
+    ensures { ReadsExactly result (filled name.now (view value.now)) }
 {
     let has = has_items(value, name);
     match value.get(name) {
@@ -240,7 +240,7 @@ pub fn filled(value: &Value, name: &str) -> Result<bool, ShapeError>
             if inside.is_array() {
                 Ok(has)
             } else {
-                Err(ShapeError::Shape)
+                Err(OtherShape)
             }
         }
     }
