@@ -21,6 +21,12 @@ abbrev pub brought : WorkerItem → Option Arrival
 brought (Brings port packet) = Some (port, packet)
 brought (Meets controller call) = None
 
+-- whether a packet is next
+abbrev pub is_packet_next : List WorkerItem → Bool
+is_packet_next [] = false
+is_packet_next (Brings port packet ∷ items) = true
+is_packet_next (Meets controller call ∷ items) = false
+
 -- the call that an item waits for: its lane and its number
 abbrev pub awaited : WorkerItem → Option (ℕ × ℕ)
 awaited (Brings port packet) = None

@@ -4,7 +4,7 @@ ghost use Rattle.std.specs.List.{AllByRecursion};
 ghost use Rattle.ctl_lock.specs.Passing.{IsOwn, RunsAtLast, SameLane};
 ghost use Rattle.lane_work.specs.Work.{new_work, steps_told};
 ghost use Rattle.p4_types.specs.declared.tape.Who.TheVariants.{Worker};
-ghost use Rattle.run_lanes.specs.Packets.{Awaits, IsPacketPass, IsTaken, Takes};
+ghost use Rattle.run_lanes.specs.Packets.{Awaits, IsPacketPass, IsTaken, Takes, is_packet_next};
 ghost use Rattle.tape_lanes.specs.Lanes.{IsItem};
 
 use crate::gate::Gate;
@@ -82,7 +82,9 @@ impl<J: Naming> PacketPass<J> {
     }
 
     /// Whether a packet is next.
-    pub fn brings(&self) -> bool {
+    pub fn brings(&self) -> bool
+        ensures { result ≡ is_packet_next self.now.todo }
+    {
         matches!(self.todo.front(), Some(WorkerItem::Brings { .. }))
     }
 
