@@ -159,6 +159,25 @@ refused (Some jobs.Check) statuses.WriteFault words old new is ends e command = 
 refused (Some jobs.Check) statuses.TooLong words old new is ends e command = omega (arith, e)
 refused (Some jobs.Check) statuses.Refused words old new is ends e command = omega (arith, e)
 
+pub untouched : (o : Option Job) (status : Status) (old new : Streams) → EndsBy o status old new → status_number status ≡ 2 → new ≡ old
+untouched None status old new ends e = ends.1
+untouched (Some (jobs.Replay start)) statuses.Done old new ends e = absurd (omega (arith, e))
+untouched (Some (jobs.Replay start)) (statuses.NotATape place) old new ends e = absurd (omega (arith, e))
+untouched (Some (jobs.Replay start)) statuses.WordsRefused old new ends e = absurd ends
+untouched (Some (jobs.Replay start)) statuses.NoMemory old new ends e = absurd (omega (arith, e))
+untouched (Some (jobs.Replay start)) statuses.ReadFault old new ends e = absurd (omega (arith, e))
+untouched (Some (jobs.Replay start)) statuses.WriteFault old new ends e = absurd (omega (arith, e))
+untouched (Some (jobs.Replay start)) statuses.TooLong old new ends e = absurd (omega (arith, e))
+untouched (Some (jobs.Replay start)) statuses.Refused old new ends e = absurd (omega (arith, e))
+untouched (Some jobs.Check) statuses.Done old new ends e = absurd (omega (arith, e))
+untouched (Some jobs.Check) (statuses.NotATape place) old new ends e = absurd (omega (arith, e))
+untouched (Some jobs.Check) statuses.WordsRefused old new ends e = absurd ends
+untouched (Some jobs.Check) statuses.NoMemory old new ends e = absurd (omega (arith, e))
+untouched (Some jobs.Check) statuses.ReadFault old new ends e = absurd (omega (arith, e))
+untouched (Some jobs.Check) statuses.WriteFault old new ends e = absurd (omega (arith, e))
+untouched (Some jobs.Check) statuses.TooLong old new ends e = absurd (omega (arith, e))
+untouched (Some jobs.Check) statuses.Refused old new ends e = absurd (omega (arith, e))
+
 pub command : (o : Option Job) (status : Status) (words : List (List ℕ)) (old new : Streams) → built (command_of words) ≡ o → EndsBy o status old new → status_number status ≢ 2 → IsCommand words
 command None status words old new is ends not = absurd (not (ap status_number ends.0))
 command (Some job) status words old new is ends not = (job, is)

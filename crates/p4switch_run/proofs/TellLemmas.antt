@@ -1,5 +1,5 @@
 -- Texts that are sent one after another.
-use Rattle.std.proofs.Common.{◌≡◌, ℕ, List, ◌++◌, Option}
+use Rattle.std.proofs.Common.{◌≡◌, ℕ, List, ◌++◌, ◌∙◌, Option}
 use Rattle.sw_edge.proofs.CountLaws.{HasCause-before}
 use Rattle.sw_edge.proofs.ToldLaws.{Appends-trans, Appends-AppendsPrefix, AppendsPrefix-more}
 use Rattle.sw_edge.specs.Answers.{Sends}
@@ -17,8 +17,9 @@ pub said_next : (a b c : Option (List ℕ)) (xs ys : List ℕ) (f g h : ℕ) (an
 said_next a b c xs ys f g h answer first second = record {
   sends = sends_next a b c xs ys answer first.sends second.sends;
   failed = HasCause-before f g h (answer ≡ Failed) first.failed.later second.failed;
+  no_fault = λ not. second.no_fault not ∙ first.no_fault (λ e. absurd (cc e));
 }
 
 -- a text that broke off, and one behind it that was not begun
 pub said_cut : (a b : Option (List ℕ)) (xs ys : List ℕ) (f g : ℕ) → IsSaid a b f g Failed xs → IsSaid a b f g Failed (xs ++ ys)
-said_cut a b xs ys f g said = record { sends = AppendsPrefix-more a b xs ys said.sends; failed = said.failed }
+said_cut a b xs ys f g said = record { sends = AppendsPrefix-more a b xs ys said.sends; failed = said.failed; no_fault = said.no_fault }

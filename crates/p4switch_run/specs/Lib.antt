@@ -1,5 +1,6 @@
 pub mod Check
 pub mod Command
+pub mod Laws
 pub mod Replay
 pub mod Run
 pub mod Session

@@ -3,6 +3,7 @@
 
 mod check;
 mod journal;
+pub mod laws;
 mod program;
 mod replay;
 mod session;

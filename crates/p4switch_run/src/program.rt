@@ -60,6 +60,8 @@ pub fn run<S: Source, O: Sink, E: Sink, N: Net, K: Clock + Send>(
     // 2: the words are no command that is built, and only then.
     ensures refused { result ≡ 2 → IsCommand (map (λ word. word.now) words.now) → ⊥ }
     ensures command { result ≢ 2 → IsCommand (map (λ word. word.now) words.now) }
+    ensures untouched { result ≡ 2 → streams (S.left tape.new) (O.sent out.new) (S.faults tape.new) (O.faults out.new)
+        ≡ streams (S.left tape.old) (O.sent out.old) (S.faults tape.old) (O.faults out.old) }
 
     // 4: the source failed.
     ensures read_fault { result ≡ 4 → Rose (S.faults tape.old) (S.faults tape.new) }
@@ -88,6 +90,10 @@ pub fn run<S: Source, O: Sink, E: Sink, N: Net, K: Clock + Send>(
     ensures flawed { result ≡ 8 → Rejects (map (λ word. word.now) words.now)
         (streams (S.left tape.old) (O.sent out.old) (S.faults tape.old) (O.faults out.old))
         (streams (S.left tape.new) (O.sent out.new) (S.faults tape.new) (O.faults out.new)) }
+
+    // Neither is used.
+    ensures net { net.new ≡ net.old }
+    ensures clock { clock.new ≡ clock.old }
 
     // There is no other status but 3, for want of memory.
     ensures statuses { result ≤ 8 }

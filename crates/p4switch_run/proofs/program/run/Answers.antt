@@ -98,3 +98,9 @@ returns-clause-no_write_fault g c =
     let old = streams (g.S.Source.left c.args.tape.now) (g.O.Sink.sent c.args.out.now) (g.S.Source.faults c.args.tape.now) (g.O.Sink.faults c.args.out.now) in
     let new = streams (g.S.Source.left c.status_of-status.new.tape) (g.O.Sink.sent c.status_of-status.new.out) (g.S.Source.faults c.status_of-status.new.tape) (g.O.Sink.faults c.status_of-status.new.out) in
     λ not. endings.sound_sink _ c.status_of-status.result old new c.status_of-status.ensures.ends (λ e. not (c.number.ensures ∙ e))
+
+pub returns-clause-untouched : goal.returns-clause-untouched
+returns-clause-untouched g c =
+    let old = streams (g.S.Source.left c.args.tape.now) (g.O.Sink.sent c.args.out.now) (g.S.Source.faults c.args.tape.now) (g.O.Sink.faults c.args.out.now) in
+    let new = streams (g.S.Source.left c.status_of-status.new.tape) (g.O.Sink.sent c.status_of-status.new.out) (g.S.Source.faults c.status_of-status.new.tape) (g.O.Sink.faults c.status_of-status.new.out) in
+    λ e. endings.untouched _ c.status_of-status.result old new c.status_of-status.ensures.ends (sym c.number.ensures ∙ e)

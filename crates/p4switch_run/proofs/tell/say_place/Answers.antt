@@ -13,4 +13,4 @@ pub returns-in-All : goal.returns-in-All
 returns-in-All g c =
     let said = rw c.format.ensures.text at c.in-All.ensures in
     rw (← append_assoc (codes "p4switch: not a tape after ") (decimal c.args.place) (codes " bytes\n"))
-    (said_next _ _ _ _ (codes " bytes\n") _ (g.E.Sink.faults c.say_both.new.err) _ _ said (record { sends = c.write.ensures.sends; failed = c.write.ensures.failed }))
+    (said_next _ _ _ _ (codes " bytes\n") _ (g.E.Sink.faults c.say_both.new.err) _ _ said (record { sends = c.write.ensures.sends; failed = c.write.ensures.failed; no_fault = c.write.ensures.no_fault }))
