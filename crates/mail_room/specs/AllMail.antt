@@ -1,5 +1,5 @@
 -- What waits for all controllers, and the digests whose lists they are sent (this project's profile).
-use Rattle.std.specs.Prelude.{◌≡◌, ℕ, ◌+◌, ◌-◌, ◌^◌, ◌<◌, ◌==◌, min, if◌then◌else◌, List, [], replicate, slice_index_or, slice_set, Option, Some, None}
+use Rattle.std.specs.Prelude.{◌≡◌, ℕ, ◌+◌, ◌-◌, ◌^◌, ◌<◌, ◌==◌, min, if◌then◌else◌, Bool, true, false, List, [], replicate, slice_index_or, slice_set, Option, Some, None}
 use Rattle.std.specs.List.{list_any}
 use Rattle.p4_types.specs.declared.messages.DigestList.{DigestList}
 use Rattle.p4_types.specs.declared.messages.P4Data.{P4Data}
@@ -78,3 +78,8 @@ module _ {T : Type 0} where
   -- the lane is given what waits longest for it
   abbrev pub Gives : MailState T → ℕ → Option (Next × Option T) → MailState T → Type 0
   Gives before lane given after = (given ≡ next_of (box_at before lane)) × (after ≡ with_box before lane (after_next (box_at before lane)))
+
+  -- Where memory was missing that is counted, and nothing else changes; it is counted nowhere else.
+  abbrev pub Counts : Bool → MailState T → MailState T → MailState T → Type 0
+  Counts true before done after = after ≡ done
+  Counts false before done after = after ≡ missed before

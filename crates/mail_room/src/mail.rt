@@ -1,9 +1,9 @@
 //! What waits for all controllers.
-ghost use Rattle.std.specs.Prelude.{◌≡◌, ◌⊎◌, IfOk, All, replicate};
+ghost use Rattle.std.specs.Prelude.{◌≡◌, ◌≢◌, ◌⊎◌, [], IfOk, All, replicate};
 ghost use Rattle.std.specs.Option.{option_copied};
 ghost use Rattle.digest_lists.specs.Fold.{HasRoom, set_digest, acknowledge};
 ghost use Rattle.mail_room.specs.Boxes.{empty_box};
-ghost use Rattle.mail_room.specs.AllMail.{IsLane, IsLaneIfAny, no_mail, with_box, with_lists, missed, notified, sent_to, packet_in, list_to, sampled, ticked, Gives};
+ghost use Rattle.mail_room.specs.AllMail.{IsLane, IsLaneIfAny, no_mail, with_box, with_lists, missed, notified, sent_to, packet_in, list_to, sampled, ticked, Gives, Counts};
 
 use crate::mailbox::Mailbox;
 use crate::next::Next;
@@ -61,11 +61,19 @@ impl<T: Drop> Mail<T> {
         })
     }
 
-    /// How often memory was missing for a sample, a digest list, or what `count_unstored` was told of.
+    /// How often memory was missing for a sample, a digest list, or what `count_unstored` was told of: so many calls of
+    /// `deliver_sample` and `tick` said so.
     pub fn unstored(&self) -> u64
         ensures { result ≡ self.now.unstored }
     {
         self.unstored
+    }
+
+    /// The digests that are set, of which the count and the ids are told: whether there is room for one more.
+    pub fn digests(&self) -> &Lists
+        ensures { result.now ≡ self.now.lists }
+    {
+        &self.lists
     }
 
     /// Sets a digest's configuration, or forgets all that is kept of the digest.
@@ -130,37 +138,74 @@ impl<T: Drop> Mail<T> {
     }
 
     /// Takes a sample of a digest at a moment, in nanoseconds. A list that it makes due goes to the lane of the primary, or nowhere without one.
-    /// Without memory the sample is lost and counted.
-    pub fn deliver_sample(&mut self, digest: u32, sample: P4Data, primary: Option<u16>, now: u64)
+    /// Without memory the sample is lost and counted, and the answer is false.
+    pub fn deliver_sample(
+        &mut self,
+        digest: u32,
+        sample: P4Data,
+        primary: Option<u16>,
+        now: u64,
+    ) -> bool
         requires { IsLaneIfAny primary }
-        ensures { (self.new ≡ sampled self.old primary digest sample now) ⊎ (self.new ≡ missed self.old) }
+        ensures { Counts result self.old (sampled self.old primary digest sample now) self.new }
     {
         match self.lists.sample(digest, sample, now) {
-            Ok(list) => self.send_list(primary, list),
-            Err(NoMemory) => self.count_unstored(),
+            Ok(list) => {
+                self.send_list(primary, list);
+                true
+            }
+            Err(NoMemory) => {
+                self.count_unstored();
+                false
+            }
         }
     }
 
-    // The list of the lowest digest that is due goes to the lane of the primary. Without memory nothing is sent, which is counted.
-    fn tick(&mut self, primary: Option<u16>, now: u64)
+    /// Sends the primary the list of the lowest digest that is due at a moment, in nanoseconds, or nobody without one. Without memory nothing is
+    /// sent, which is counted, and the answer is false.
+    pub fn tick(&mut self, primary: Option<u16>, now: u64) -> bool
         requires { IsLaneIfAny primary }
-        ensures { (self.new ≡ ticked self.old primary now) ⊎ (self.new ≡ missed self.old) }
+        ensures { Counts result self.old (ticked self.old primary now) self.new }
     {
         match self.lists.tick(now) {
-            Ok(list) => self.send_list(primary, list),
-            Err(NoMemory) => self.count_unstored(),
+            Ok(list) => {
+                self.send_list(primary, list);
+                true
+            }
+            Err(NoMemory) => {
+                self.count_unstored();
+                false
+            }
         }
     }
 
-    /// Sends the primary the list of the lowest digest that is due at a moment, in nanoseconds; without memory nothing is sent, which is counted.
-    /// Then gives the lane's oldest message, with what its call has told if it is a notice; else once an overflow, where a notice found no room.
+    /// Gives the lane's oldest message, with what its call has told if it is a notice; else once an overflow, where a notice found no room.
+    pub fn take(&mut self, lane: u16) -> Option<(Next, Option<T>)>
+        requires { IsLane lane }
+        ensures { Gives self.old lane result self.new }
+    {
+        self.boxes[usize::from(lane)].next()
+    }
+
+    // Where no digest is set, no memory is asked for.
+    #[tactic(auto, using(crate::proofs::Ticks::nothing_set, crate::proofs::Ticks::some_set))]
+    fn tick_if_set(&mut self, primary: Option<u16>, now: u64)
+        requires { IsLaneIfAny primary }
+        ensures { (self.new ≡ ticked self.old primary now) ⊎ ((self.old.lists ≢ []) × (self.new ≡ missed self.old)) }
+    {
+        if !self.lists.is_empty() {
+            self.tick(primary, now);
+        }
+    }
+
+    /// `tick`, and then `take`. Where no digest is set, no memory is asked for.
     pub fn next(&mut self, lane: u16, primary: Option<u16>, now: u64) -> Option<(Next, Option<T>)>
         requires lane { IsLane lane }
         requires primary { IsLaneIfAny primary }
-        ensures { Gives (ticked self.old primary now) lane result self.new ⊎ Gives (missed self.old) lane result self.new }
+        ensures { Gives (ticked self.old primary now) lane result self.new ⊎ ((self.old.lists ≢ []) × Gives (missed self.old) lane result self.new) }
     {
-        self.tick(primary, now);
-        self.boxes[usize::from(lane)].next()
+        self.tick_if_set(primary, now);
+        self.take(lane)
     }
 
     /// Drops what waits for a lane, and forgets that a notice found no room.

@@ -1,13 +1,17 @@
 //! What the program does with the words and the streams of its process.
 #![tactic(auto)]
 
-ghost use Rattle.std.specs.Prelude.{◌≡◌, drop, map, string_bytes, IfOk};
+ghost use Rattle.std.specs.Prelude.{◌≡◌, ◌≢◌, ◌≤◌, drop, map, string_bytes, IfOk};
+ghost use Rattle.std.specs.Process.{exit_status};
 ghost use Rattle.std.specs.Vec.Iter.{into_iter_items};
+ghost use Rattle.p4switch_run.specs.Command.{IsCommand};
 
 use std::alloc::{AllocError, Global};
 use std::env::{self, Args};
 use std::io::ErrorKind;
 use std::process::ExitCode;
+use std::sync::Wait;
+use std::thread::Threads;
 use sw_edge::{MemoryNet, RealClock, RealSink, RealSource};
 
 // The words behind the program's name.
@@ -35,7 +39,12 @@ fn texts_of(alloc: Global, words: &[String]) -> Result<Vec<&str>, AllocError>
 }
 
 // The exit status of the program with these words. A net comes with serving.
-fn status_of(rt: HostRuntime, words: &[String]) -> u8 {
+fn status_of<T: Threads + Wait + Sync>(threads: &T, rt: HostRuntime, words: &[String]) -> u8
+    ensures refused { result ≡ 2 → IsCommand (map (λ word. string_bytes word) words.now) → ⊥ }
+    ensures command { result ≢ 2 → result ≢ 3 → IsCommand (map (λ word. string_bytes word) words.now) }
+    ensures statuses { result ≤ 8 }
+    ensures no_net { result ≢ 7 }
+{
     let alloc = rt.alloc();
     let mut err = RealSink::new(rt.stderr());
     let Ok(texts) = texts_of(alloc, words) else {
@@ -51,6 +60,7 @@ fn status_of(rt: HostRuntime, words: &[String]) -> u8 {
     );
     let mut clock = RealClock::new(rt);
     p4switch_run::run(
+        threads,
         alloc,
         texts.as_slice(),
         &mut tape,
@@ -62,7 +72,10 @@ fn status_of(rt: HostRuntime, words: &[String]) -> u8 {
 }
 
 /// Runs the program with the words and the streams of the process, and gives the status with which the process is to end.
-pub fn exit_of(rt: HostRuntime) -> ExitCode {
+pub fn exit_of<T: Threads + Wait + Sync>(threads: &T, rt: HostRuntime) -> ExitCode
+    ensures statuses { exit_status result ≤ 8 }
+    ensures no_net { exit_status result ≢ 7 }
+{
     let words = match env::args(&rt) {
         Ok(args) => words_of(rt.alloc(), args),
         Err(error) if error.kind() == ErrorKind::OutOfMemory => Err(AllocError),
@@ -73,5 +86,5 @@ pub fn exit_of(rt: HostRuntime) -> ExitCode {
         let mut err = RealSink::new(rt.stderr());
         return ExitCode::from(p4switch_run::end_without_memory(&mut err));
     };
-    ExitCode::from(status_of(rt, words.as_slice()))
+    ExitCode::from(status_of(threads, rt, words.as_slice()))
 }

@@ -1,5 +1,5 @@
 -- A tape within the limits is reported, unless the source or the sink fails or memory is out.
-use Rattle.std.proofs.Common.{◌≡◌, ℕ, ◌<◌, ◌≤◌, List, length, Option, None, Some, Ok, Err, refl, ap, ◌∙◌, sym, subst, ◌⊎◌, inl, inr, arith, length-append}
+use Rattle.std.proofs.Common.{◌≡◌, ℕ, ◌≤◌, List, length, Option, None, Some, Ok, Err, refl, ap, ◌∙◌, sym, subst, ◌⊎◌, inl, inr, arith, length-append}
 use Rattle.p4_types.specs.declared.tape.TapeRecord.{TapeRecord}
 use Rattle.sw_edge.proofs.ToldLaws.{Consumes-all}
 use Rattle.sw_edge.specs.Counts.{Rose}
@@ -15,6 +15,7 @@ use Rattle.tape_form.specs.declared.fault.TapeFault.TheVariants as faults
 use Rattle.p4switch_run.specs.declared.status.Status.{Status}
 use Rattle.p4switch_run.specs.declared.status.Status.TheVariants as statuses
 use Rattle.p4_types.specs.declared.events.Start.{Start}
+use Rattle.p4switch_run.specs.declared.words.Mode.{Mode}
 use Rattle.p4switch_run.specs.Check.{Checks}
 use Rattle.p4switch_run.specs.Command.{status_number}
 use Rattle.p4switch_run.specs.Replay.{Streams, Answers}
@@ -46,18 +47,18 @@ not_refused left new before now fault holds sound taken consumed h =
     (tape_is_read MAX_RECORDS holds.bytes holds.records holds.tape holds.count) holds.size (subst P holds.left_is consumed) sound h.so h.within h.same
 
 -- the statuses that are left
-pub complete : (status : Status) (start : Start) (old new : Streams) → Answers start status old new → HoldsTape old.left
+pub complete : (status : Status) (mode : Mode) (start : Start) (old new : Streams) → Answers mode start status old new → HoldsTape old.left
     → (Rose old.read_faults new.read_faults → ⊥) → (Rose old.write_faults new.write_faults → ⊥) → (status_number status ≡ 0) ⊎ (status_number status ≡ 3)
-complete statuses.Done start old new ends holds reads writes = inl refl
-complete (statuses.NotATape place) start old new ends holds reads writes =
+complete statuses.Done mode start old new ends holds reads writes = inl refl
+complete (statuses.NotATape place) mode start old new ends holds reads writes =
     let read = ends.«because».1 in absurd (not_refused old.left new.left _ _ (faults.Bad place) holds reads read.taken read.from.consumed read.answers)
-complete statuses.WordsRefused start old new ends holds reads writes = absurd ends
-complete statuses.NoMemory start old new ends holds reads writes = inr refl
-complete statuses.ReadFault start old new ends holds reads writes = absurd (reads ends.«because».0)
-complete statuses.WriteFault start old new ends holds reads writes = absurd (writes ends.fault)
-complete statuses.TooLong start old new ends holds reads writes =
+complete statuses.WordsRefused mode start old new ends holds reads writes = absurd ends
+complete statuses.NoMemory mode start old new ends holds reads writes = inr refl
+complete statuses.ReadFault mode start old new ends holds reads writes = absurd (reads ends.«because».0)
+complete statuses.WriteFault mode start old new ends holds reads writes = absurd (writes ends.fault)
+complete statuses.TooLong mode start old new ends holds reads writes =
     let read = ends.«because».1 in absurd (not_refused old.left new.left _ _ faults.TooLong holds reads read.taken read.from.consumed read.answers)
-complete statuses.Refused start old new ends holds reads writes = absurd ends
+complete statuses.Refused mode start old new ends holds reads writes = absurd ends
 
 past_within : (bytes taken : List ℕ) → length taken ≤ length bytes → length bytes ≤ 67108864 → EndsWithin AtLimit taken → ⊥
 past_within bytes taken within size past = omega (arith, within, size, past)

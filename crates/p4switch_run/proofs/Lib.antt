@@ -7,3 +7,4 @@ pub mod SessionBounds
 pub mod SessionLemmas
 pub mod TallyLemmas
 pub mod TellLemmas
+pub mod Unfinished

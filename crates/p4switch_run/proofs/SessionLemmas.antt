@@ -23,7 +23,7 @@ use Rattle.slot_totals.specs.State.{TotalsState, figures}
 use Rattle.switch_spec.specs.Counts.{Figures, figures_after}
 use Rattle.switch_spec.specs.History.{is_unavailable, step_of, steps_of, reply_of}
 use Rattle.switch_spec.specs.Meaning.{carried}
-use Rattle.run_spec.specs.Play.{Played, Answers, Refuses, Carries, next_call, next_packet, next_answer, play_answer, play_refusal, play_out, play_packet, play}
+use Rattle.run_spec.specs.Play.{Played, next_call, next_packet, next_answer, play_answer, play_refusal, play_out, play_packet, play}
 use Rattle.switch_spec.proofs.Answers.{answer_to_sound}
 use Rattle.p4switch_run.specs.Session.{State, played_of, IsSession, IsHandled, IsEntered, IsCarried, IsOut, IsCompleted, TakesPacket, entry_of, PlaysCall, Plays, HasRoom}
 

@@ -16,7 +16,7 @@ sends_next a b c xs ys Failed first second = Appends-AppendsPrefix a b c xs ys f
 pub said_next : (a b c : Option (List ℕ)) (xs ys : List ℕ) (f g h : ℕ) (answer : Sent) → IsSaid a b f g All xs → IsSaid b c g h answer ys → IsSaid a c f h answer (xs ++ ys)
 said_next a b c xs ys f g h answer first second = record {
   sends = sends_next a b c xs ys answer first.sends second.sends;
-  failed = HasCause-before f g h (answer ≡ Failed) first.failed.later second.failed;
+  failed = HasCause-before f g h (answer ≡ Failed) (first.no_fault (λ e. absurd (cc e))) second.failed;
   no_fault = λ not. second.no_fault not ∙ first.no_fault (λ e. absurd (cc e));
 }
 

@@ -1,12 +1,12 @@
 -- What each answer of the check of a configuration says of what was read and written.
-use Rattle.std.specs.Prelude.{◌≡◌, ℕ, ◌≤◌, List, ◌++◌, length, Option, None, Some, ⊤, codes}
+use Rattle.std.specs.Prelude.{◌≡◌, ℕ, ◌≤◌, List, ◌++◌, length, Option, None, Some, codes}
 use Rattle.std.specs.Fmt.{decimal}
 use Rattle.p4_types.specs.declared.code.ConfigRule.{ConfigRule}
 use Rattle.p4_types.specs.declared.code.ConfigRule.TheVariants as flaws
 use Rattle.config_rules.specs.Flaw.{config_flaw}
 use Rattle.sw_edge.specs.Counts.{Rose}
 use Rattle.sw_edge.specs.Told.{Consumes, IsAtEnd, Appends, AppendsPrefix}
-use Rattle.tape_form.specs.TapeRead.{EndsSoundly, EndsWithin}
+use Rattle.tape_form.specs.TapeRead.{EndsSoundly, EndsWithin, IsUnfinished}
 use Rattle.tape_form.specs.declared.fault.Ended.{Ended}
 use Rattle.tape_form.specs.declared.fault.Ended.TheVariants.{AtEnd, AtFault, AtLimit}
 use Rattle.p4switch_run.specs.declared.status.Status.{Status}
@@ -70,7 +70,7 @@ abbrev pub Unread : Status → Option (List ℕ) → Option (List ℕ) → ℕ �
 Unread statuses.Done old new before now = ⊥
 Unread (statuses.NotATape place) old new before now = ⊥
 Unread statuses.WordsRefused old new before now = ⊥
-Unread statuses.NoMemory old new before now = ⊤
+Unread statuses.NoMemory old new before now = IsUnfinished old new before now
 Unread statuses.ReadFault old new before now = IsTakenUp AtFault old new before now
 Unread statuses.WriteFault old new before now = ⊥
 Unread statuses.TooLong old new before now = IsTakenUp AtLimit old new before now
@@ -81,7 +81,7 @@ abbrev pub Checks : Status → Streams → Streams → Type 0
 Checks statuses.Done old new = IsJudged None old new
 Checks (statuses.NotATape place) old new = ⊥
 Checks statuses.WordsRefused old new = ⊥
-Checks statuses.NoMemory old new = Nothing old new ⊤
+Checks statuses.NoMemory old new = Nothing old new (IsUnfinished old.left new.left old.read_faults new.read_faults)
 Checks statuses.ReadFault old new = Nothing old new (IsTakenUp AtFault old.left new.left old.read_faults new.read_faults)
 Checks statuses.WriteFault old new = IsJudgedShort old new
 Checks statuses.TooLong old new = Nothing old new (IsTakenUp AtLimit old.left new.left old.read_faults new.read_faults)

@@ -8,11 +8,12 @@ use Rattle.p4switch_run.specs.declared.status.Status.{Status}
 use Rattle.p4switch_run.specs.declared.status.Status.TheVariants as statuses
 use Rattle.p4switch_run.specs.declared.words.Job.{Job}
 use Rattle.p4switch_run.specs.declared.words.Job.TheVariants as jobs
+use Rattle.p4switch_run.specs.declared.words.Mode.{Mode}
 use Rattle.p4switch_run.specs.Words.{command_of, built}
 
--- the words, behind the program's name, ask for a replay in lockstep that starts so
-abbrev pub IsReplay : Start → List (List ℕ) → Type 0
-IsReplay start words = built (command_of words) ≡ Some (jobs.Replay start)
+-- the words, behind the program's name, ask for a replay in this mode that starts so
+abbrev pub IsReplay : Mode → Start → List (List ℕ) → Type 0
+IsReplay mode start words = built (command_of words) ≡ Some (jobs.Replay mode start)
 
 -- the words ask for the check of a configuration
 abbrev pub IsCheck : List (List ℕ) → Type 0

@@ -1,9 +1,10 @@
 -- What each answer of a replay says of what was read and written.
-use Rattle.std.specs.Prelude.{◌≡◌, ℕ, List, Option, Err, ⊤}
+use Rattle.std.specs.Prelude.{◌≡◌, ℕ, ◌⊎◌, List, Option, Err}
 use Rattle.p4_types.specs.declared.tape.TapeRecord.{TapeRecord}
 use Rattle.sw_edge.specs.Counts.{Rose}
 use Rattle.sw_edge.specs.Told.{Keeps, Appends, AppendsPrefix}
 use Rattle.run_spec.specs.Report.{IsLockstepReport}
+use Rattle.replay_run.specs.Running.{IsFreeReport}
 use Rattle.p4_types.specs.declared.events.Start.{Start}
 use Rattle.run_spec.specs.Play.{Played, played_report}
 use Rattle.run_spec.specs.ReportText.{report_text}
@@ -12,6 +13,8 @@ use Rattle.tape_form.specs.TapeRead.{IsReadFrom, IsWholeTape, IsBadAt, IsTooLong
 use Rattle.tape_form.specs.declared.fault.TapeFault.TheVariants as faults
 use Rattle.p4switch_run.specs.declared.status.Status.{Status}
 use Rattle.p4switch_run.specs.declared.status.Status.TheVariants as statuses
+use Rattle.p4switch_run.specs.declared.words.Mode.{Mode}
+use Rattle.p4switch_run.specs.declared.words.Mode.TheVariants as modes
 
 -- the source and the sink: what is left to read, what was written, and how often each has failed
 pub record Streams : Type 0 where
@@ -24,24 +27,30 @@ pub record Streams : Type 0 where
 abbrev pub streams : Option (List ℕ) → Option (List ℕ) → ℕ → ℕ → Streams
 streams left sent read_faults write_faults = record { left = left; sent = sent; read_faults = read_faults; write_faults = write_faults }
 
--- The bytes that were left are a tape, all of them were taken, and the text is its report, in the lockstep reading.
-pub record IsReplayed (start : Start) (old new : Option (List ℕ)) (text : List ℕ) : Type 0 where
+-- The text is the report of a run of the tape: in lockstep of the one that follows the tape, else of one in some
+-- interleaving of its lanes.
+abbrev pub IsReportIn : Mode → Start → List TapeRecord → List ℕ → Type 0
+IsReportIn modes.Lockstep start records text = IsLockstepReport start records text
+IsReportIn modes.Free start records text = IsFreeReport start records text
+
+-- The bytes that were left are a tape, all of them were taken, and the text is its report.
+pub record IsReplayed (mode : Mode) (start : Start) (old new : Option (List ℕ)) (text : List ℕ) : Type 0 where
   pub records : List TapeRecord
   pub whole : IsWholeTape old new records
-  pub report : IsLockstepReport start records text
+  pub report : IsReportIn mode start records text
 
 -- the report was written, and neither the source nor the sink has failed
-pub record IsWritten (start : Start) (old new : Streams) : Type 0 where
+pub record IsWritten (mode : Mode) (start : Start) (old new : Streams) : Type 0 where
   pub text : List ℕ
-  pub replayed : IsReplayed start old.left new.left text
+  pub replayed : IsReplayed mode start old.left new.left text
   pub written : Appends old.sent new.sent text
   pub sound_source : new.read_faults ≡ old.read_faults
   pub sound_sink : new.write_faults ≡ old.write_faults
 
 -- some first bytes of the report were written, since the sink failed, and the source has not
-pub record IsCutShort (start : Start) (old new : Streams) : Type 0 where
+pub record IsCutShort (mode : Mode) (start : Start) (old new : Streams) : Type 0 where
   pub text : List ℕ
-  pub replayed : IsReplayed start old.left new.left text
+  pub replayed : IsReplayed mode start old.left new.left text
   pub written : AppendsPrefix old.sent new.sent text
   pub sound_source : new.read_faults ≡ old.read_faults
   pub fault : Rose old.write_faults new.write_faults
@@ -56,20 +65,30 @@ pub record Nothing (old new : Streams) (cause : Type 0) : Type 0 where
   pub sound_sink : new.write_faults ≡ old.write_faults
   pub «because» : cause
 
+-- There was no memory to read the tape, or to run one that was read whole. It hides no fault of the source, no bad byte and no
+-- limit, and the source has not failed.
+abbrev pub LacksMemory : Streams → Streams → Type 0
+LacksMemory old new = ReadWith faults.NoMemory old new ⊎ ((records : List TapeRecord) × IsWholeTape old.left new.left records × (new.read_faults ≡ old.read_faults))
+
 -- What each answer says; a replay does not refuse words. A tape that is not read is answered by the first of a bad byte,
 -- a limit and a fault, in the order of the bytes.
-abbrev pub Answers : Start → Status → Streams → Streams → Type 0
-Answers start statuses.Done old new = IsWritten start old new
-Answers start (statuses.NotATape place) old new = Nothing old new (IsBadAt old.left new.left place × ReadWith (faults.Bad place) old new)
-Answers start statuses.WordsRefused old new = ⊥
-Answers start statuses.NoMemory old new = Nothing old new ⊤
-Answers start statuses.ReadFault old new = Nothing old new (Rose old.read_faults new.read_faults × ReadWith faults.Fault old new)
-Answers start statuses.WriteFault old new = IsCutShort start old new
-Answers start statuses.TooLong old new = Nothing old new (IsTooLong old.left new.left × ReadWith faults.TooLong old new)
-Answers start statuses.Refused old new = ⊥
+abbrev pub Answers : Mode → Start → Status → Streams → Streams → Type 0
+Answers mode start statuses.Done old new = IsWritten mode start old new
+Answers mode start (statuses.NotATape place) old new = Nothing old new (IsBadAt old.left new.left place × ReadWith (faults.Bad place) old new)
+Answers mode start statuses.WordsRefused old new = ⊥
+Answers mode start statuses.NoMemory old new = Nothing old new (LacksMemory old new)
+Answers mode start statuses.ReadFault old new = Nothing old new (Rose old.read_faults new.read_faults × ReadWith faults.Fault old new)
+Answers mode start statuses.WriteFault old new = IsCutShort mode start old new
+Answers mode start statuses.TooLong old new = Nothing old new (IsTooLong old.left new.left × ReadWith faults.TooLong old new)
+Answers mode start statuses.Refused old new = ⊥
 
--- the text is the report of a run of these records
+-- the text is the report of the run of these records, one after the other
 pub record IsTextOf (start : Start) (records : List TapeRecord) (text : List ℕ) : Type 0 where
   pub run : Played
   pub played : IsPlayed start records run
   pub text_is : text ≡ report_text (played_report run)
+
+-- the text that a run of these records gives in this mode
+abbrev pub IsTextIn : Mode → Start → List TapeRecord → List ℕ → Type 0
+IsTextIn modes.Lockstep start records text = IsTextOf start records text
+IsTextIn modes.Free start records text = IsFreeReport start records text

@@ -11,6 +11,7 @@ use Rattle.p4switch_run.specs.declared.status.Status.{Status}
 use Rattle.p4switch_run.specs.declared.status.Status.TheVariants as statuses
 use Rattle.p4switch_run.specs.declared.words.Job.{Job}
 use Rattle.p4switch_run.specs.declared.words.Job.TheVariants as jobs
+use Rattle.p4switch_run.specs.declared.words.Mode.{Mode}
 use Rattle.p4switch_run.specs.Check.{Checks, IsJudged, IsJudgedShort, IsRefused, IsTakenUp, ended_status}
 use Rattle.p4switch_run.specs.Command.{IsReplay, IsCheck, status_number, fault_status, status_line}
 use Rattle.p4switch_run.specs.Words.{command_of, built}
@@ -20,7 +21,7 @@ use Rattle.p4switch_run.specs.Tell.{IsSaid}
 -- What a job says of its answer. Without one the words are refused, and all is left as it was.
 abbrev pub EndsBy : Option Job → Status → Streams → Streams → Type 0
 EndsBy None status old new = (status ≡ statuses.WordsRefused) × (new ≡ old)
-EndsBy (Some (jobs.Replay start)) status old new = Answers start status old new
+EndsBy (Some (jobs.Replay mode start)) status old new = Answers mode start status old new
 EndsBy (Some jobs.Check) status old new = Checks status old new
 
 -- what the answer to these words says of what was read and written
@@ -29,15 +30,17 @@ Ends status words old new = EndsBy (built (command_of words)) status old new
 
 -- the report of the replay that the words ask for was written
 pub record Reports (words : List (List ℕ)) (old new : Streams) : Type 0 where
+  pub mode : Mode
   pub start : Start
-  pub command : IsReplay start words
-  pub written : IsWritten start old new
+  pub command : IsReplay mode start words
+  pub written : IsWritten mode start old new
 
 -- some first bytes of it were
 pub record Breaks (words : List (List ℕ)) (old new : Streams) : Type 0 where
+  pub mode : Mode
   pub start : Start
-  pub command : IsReplay start words
-  pub cut : IsCutShort start old new
+  pub command : IsReplay mode start words
+  pub cut : IsCutShort mode start old new
 
 -- the words ask for a check, and it found no rule that is broken
 pub record Approves (words : List (List ℕ)) (old new : Streams) : Type 0 where
@@ -56,8 +59,9 @@ IsUnread number = (number ≡ 1) ⊎ ((number ≡ 4) ⊎ (number ≡ 6))
 -- The words ask for a replay, the reading of the tape was answered with this fault, and the status is that of it: of a
 -- bad byte, a limit and a fault the first in the order of the bytes.
 pub record Misreads (number : ℕ) (words : List (List ℕ)) (old new : Streams) : Type 0 where
+  pub mode : Mode
   pub start : Start
-  pub command : IsReplay start words
+  pub command : IsReplay mode start words
   pub fault : TapeFault
   pub number_is : number ≡ status_number (fault_status fault)
   pub read : ReadWith fault old new

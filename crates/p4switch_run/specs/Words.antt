@@ -11,6 +11,8 @@ use Rattle.p4switch_run.specs.declared.words.Given.{Given}
 use Rattle.p4switch_run.specs.declared.words.Given.TheVariants as given
 use Rattle.p4switch_run.specs.declared.words.Job.{Job}
 use Rattle.p4switch_run.specs.declared.words.Job.TheVariants as jobs
+use Rattle.p4switch_run.specs.declared.words.Mode.{Mode}
+use Rattle.p4switch_run.specs.declared.words.Mode.TheVariants as modes
 use Rattle.p4switch_run.specs.declared.words.Settings.{Settings}
 use Rattle.p4switch_run.specs.declared.words.Verb.{Verb}
 use Rattle.p4switch_run.specs.declared.words.Verb.TheVariants as verbs
@@ -79,9 +81,14 @@ settings_from verb s (name ∷ value ∷ rest) = elim (flag_named name) [
 abbrev pub start_of : Settings → Start
 start_of s = record { device = unwrap_or s.device 1; cpu = unwrap_or s.cpu 255; rows = unwrap_or s.rows 16384; bridge = s.bridge }
 
+-- a replay is in lockstep where that was asked for, and free else
+abbrev pub mode_of : Bool → Mode
+mode_of true = modes.Lockstep
+mode_of false = modes.Free
+
 -- a replay, in lockstep or free
 abbrev pub replay_of : Settings → Command
-replay_of s = commands.Replay s.lockstep (start_of s)
+replay_of s = commands.Replay (mode_of s.lockstep) (start_of s)
 
 -- serving at a port, which is always given; packets at UDP port 9,000 and 2 workers where no option says another
 abbrev pub serve_at : Option ℕ → Settings → Option Command
@@ -112,8 +119,8 @@ abbrev pub command_of : List (List ℕ) → Option Command
 command_of [] = None
 command_of (name ∷ words) = command_named name words
 
--- What is built of the grammar: replays in lockstep, and checks. Other commands are refused like words that are not in it.
+-- What is built of the grammar: replays, and checks. Other commands are refused like words that are not in it.
 abbrev pub built : Option Command → Option Job
-built (Some (commands.Replay true start)) = Some (jobs.Replay start)
+built (Some (commands.Replay mode start)) = Some (jobs.Replay mode start)
 built (Some commands.Check) = Some jobs.Check
 built _ = None

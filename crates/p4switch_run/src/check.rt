@@ -22,6 +22,7 @@ fn ended_status(ended: Ended) -> Option<Status>
 }
 
 // The first rule that the configuration breaks which the source gives, if it breaks one.
+#[tactic(auto, using(crate::proofs::Unfinished::taken_unfinished))]
 fn flaw_from<S: Source>(alloc: Global, source: &mut S) -> Result<Option<ConfigRule>, Status>
     ensures ok { IfOk result (λ flaw. HasFlaw flaw (S.left source.old) (S.left source.new)) }
     ensures sound { OnOk result (S.faults source.new ≡ S.faults source.old) }
@@ -62,6 +63,7 @@ fn status_of(flaw: Option<ConfigRule>) -> Status
 }
 
 /// Reads a configuration up to its end, and writes whether it breaks a rule, and which one first.
+#[tactic(auto, using(crate::proofs::Unfinished::flaw_unfinished))]
 pub fn check<S: Source, O: Sink>(alloc: Global, source: &mut S, out: &mut O) -> Status
     ensures checks { Checks result
         (streams (S.left source.old) (O.sent out.old) (S.faults source.old) (O.faults out.old))

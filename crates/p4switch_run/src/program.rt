@@ -2,9 +2,10 @@
 ghost use Rattle.std.specs.Prelude.{◌≡◌, ◌≢◌, ◌≤◌, ◌⊎◌, map};
 ghost use Rattle.sw_edge.specs.Counts.{Rose};
 ghost use Rattle.sw_edge.specs.Told.{Keeps};
-ghost use Rattle.tape_form.specs.TapeRead.{IsTooLong};
+ghost use Rattle.tape_form.specs.TapeRead.{IsTooLong, IsUnfinished};
 ghost use Rattle.p4switch_run.specs.Command.{IsCommand, IsReplay, IsCheck};
 ghost use Rattle.p4_types.specs.declared.events.Start.{Start};
+ghost use Rattle.p4switch_run.specs.declared.words.Mode.{Mode};
 ghost use Rattle.p4switch_run.specs.Replay.{streams};
 ghost use Rattle.p4switch_run.specs.Run.{Ends, Reports, Breaks, Approves, BreaksLine, IsUnread, Misreads, Stops, Rejects, HoldsTape, HoldsBytes, NamesPlace, SaysStatus, lines};
 
@@ -14,10 +15,18 @@ use crate::status::Status;
 use crate::tell::tell;
 use crate::words::{Job, built, command_of};
 use std::alloc::Global;
+use std::sync::Wait;
+use std::thread::Threads;
 use sw_edge::{Clock, Net, Sink, Source};
 
 // What the words ask for is done, if they are a command that is built.
-fn status_of<S: Source, O: Sink>(alloc: Global, words: &[&str], tape: &mut S, out: &mut O) -> Status
+fn status_of<T: Threads + Wait + Sync, S: Source, O: Sink>(
+    rt: &T,
+    alloc: Global,
+    words: &[&str],
+    tape: &mut S,
+    out: &mut O,
+) -> Status
     ensures ends { Ends result (map (λ word. word.now) words.now)
         (streams (S.left tape.old) (O.sent out.old) (S.faults tape.old) (O.faults out.old))
         (streams (S.left tape.new) (O.sent out.new) (S.faults tape.new) (O.faults out.new)) }
@@ -25,18 +34,20 @@ fn status_of<S: Source, O: Sink>(alloc: Global, words: &[&str], tape: &mut S, ou
     ensures writes { O.faults out.old ≤ O.faults out.new }
 {
     match built(command_of(words)) {
-        Some(Job::Replay(start)) => replay(alloc, start, tape, out),
+        Some(Job::Replay(mode, start)) => replay(rt, alloc, mode, start, tape, out),
         Some(Job::Check) => check(alloc, tape, out),
         None => Status::WordsRefused,
     }
 }
 
-/// Runs the program with the words behind its name, and answers its exit status: `replay --lockstep` reads a
-/// tape from `tape`, runs it without a program or with `--bridge` over the built-in bridge, on the device, with the CPU
-/// port and the rows that its other options name, and writes its report to `out`, which is made whole before its first
-/// byte is written. `check` reads a configuration from `tape`, and writes `ok`, or `refused` with the first rule that it
+/// Runs the program with the words behind its name, and answers its exit status: `replay` reads a tape from `tape`, runs
+/// it without a program or with `--bridge` over the built-in bridge, on the device, with the CPU port and the rows that its
+/// other options name, and writes its report to `out`, which is made whole before its first byte is written. With
+/// `--lockstep` the records of the tape run one after the other, and else each lane on a thread of its own; the lanes of a
+/// thread that cannot be started run on the caller's. `check` reads a configuration from `tape`, and writes `ok`, or `refused` with the first rule that it
 /// breaks. A status other than 0 and 8 has its line on `err`. The net and the clock are not used yet.
-pub fn run<S: Source, O: Sink, E: Sink, N: Net, K: Clock + Send>(
+pub fn run<T: Threads + Wait + Sync, S: Source, O: Sink, E: Sink, N: Net, K: Clock + Send>(
+    rt: &T,
     alloc: Global,
     words: &[&str],
     tape: &mut S,
@@ -45,7 +56,8 @@ pub fn run<S: Source, O: Sink, E: Sink, N: Net, K: Clock + Send>(
     net: &mut N,
     clock: &mut K,
 ) -> u8
-    // 0: the tape is read to its end, and what is written is its report, in the lockstep reading.
+    // 0: the tape is read to its end, and what is written is its report. With `--lockstep` it is that of the run that
+    // follows the tape, else of a run in some interleaving of the lanes.
     ensures report { result ≡ 0 → (Reports (map (λ word. word.now) words.now)
         (streams (S.left tape.old) (O.sent out.old) (S.faults tape.old) (O.faults out.old))
         (streams (S.left tape.new) (O.sent out.new) (S.faults tape.new) (O.faults out.new)))
@@ -62,6 +74,9 @@ pub fn run<S: Source, O: Sink, E: Sink, N: Net, K: Clock + Send>(
     ensures command { result ≢ 2 → IsCommand (map (λ word. word.now) words.now) }
     ensures untouched { result ≡ 2 → streams (S.left tape.new) (O.sent out.new) (S.faults tape.new) (O.faults out.new)
         ≡ streams (S.left tape.old) (O.sent out.old) (S.faults tape.old) (O.faults out.old) }
+
+    // 3: there was no memory. The source has not failed, and no more was taken of it than a tape or a configuration may have.
+    ensures no_memory { result ≡ 3 → IsUnfinished (S.left tape.old) (S.left tape.new) (S.faults tape.old) (S.faults tape.new) }
 
     // 4: the source failed.
     ensures read_fault { result ≡ 4 → Rose (S.faults tape.old) (S.faults tape.new) }
@@ -102,7 +117,7 @@ pub fn run<S: Source, O: Sink, E: Sink, N: Net, K: Clock + Send>(
     ensures told { SaysStatus result (lines (E.sent err.old) (E.sent err.new) (E.faults err.old) (E.faults err.new)) }
 
     // A tape within the limits is reported, unless source or sink fails or memory is out.
-    ensures complete { (start : Start) → IsReplay start (map (λ word. word.now) words.now) → HoldsTape (S.left tape.old)
+    ensures complete { (mode : Mode) (start : Start) → IsReplay mode start (map (λ word. word.now) words.now) → HoldsTape (S.left tape.old)
         → (Rose (S.faults tape.old) (S.faults tape.new) → ⊥) → (Rose (O.faults out.old) (O.faults out.new) → ⊥)
         → (result ≡ 0) ⊎ (result ≡ 3) }
 
@@ -113,7 +128,7 @@ pub fn run<S: Source, O: Sink, E: Sink, N: Net, K: Clock + Send>(
 {
     let _ = net;
     let _ = clock;
-    let status = status_of(alloc, words, tape, out);
+    let status = status_of(rt, alloc, words, tape, out);
     let _ = tell(err, status);
     status.number()
 }

@@ -341,7 +341,7 @@ impl Session {
     {
         let plane = self.control.image().active();
         let counts = slot_totals::count_lines(alloc, plane, &self.totals)?;
-        let cells = slot_totals::cell_lines(alloc, plane, &self.totals, self.totals.slots())?;
+        let cells = slot_totals::cell_lines(alloc, plane, &self.totals)?;
         let journal = mem::replace(&mut self.journal, List::new(alloc));
         let packets = mem::replace(&mut self.packets, Packets::open(alloc));
         Ok(Report {

@@ -2,7 +2,7 @@
 ghost use Rattle.std.specs.Prelude.{◌≡◌, ◌≤◌, ◌<◌, ◌^◌, ℕ, Some, ⊤, map, MatchOption};
 ghost use Rattle.std.specs.Fmt.{decimal};
 ghost use Rattle.std.specs.Str.{bytes_eq};
-ghost use Rattle.p4switch_run.specs.Words.{number_of, in_range, flag_named, number_named, nothing_given, once, with_option, settings_from, start_of, replay_of, serve_at, check_of, gen_of, command_named, command_of, built};
+ghost use Rattle.p4switch_run.specs.Words.{number_of, in_range, flag_named, number_named, nothing_given, once, with_option, settings_from, start_of, mode_of, replay_of, serve_at, check_of, gen_of, command_named, command_of, built};
 
 use itoa::Buffer;
 use p4_types::events::Start;
@@ -27,6 +27,15 @@ pub enum Given {
     Workers(u16),
 }
 
+/// How the lanes of a tape run beside one another.
+#[derive(Clone, Copy)]
+pub enum Mode {
+    /// One record after the other, as they stand on the tape.
+    Lockstep,
+    /// Each lane on a thread of its own.
+    Free,
+}
+
 /// The options that were given.
 #[derive(Clone, Copy)]
 pub struct Settings {
@@ -45,7 +54,7 @@ pub struct Settings {
 pub enum Command {
     /// Reads a tape, runs it and writes the report.
     Replay {
-        lockstep: bool,
+        mode: Mode,
         start: Start,
     },
     /// Listens at a port, and serves.
@@ -64,8 +73,8 @@ pub enum Command {
 /// What the program does.
 #[derive(Clone, Copy)]
 pub enum Job {
-    /// Runs a tape in lockstep, from this start.
-    Replay(Start),
+    /// Runs a tape, from this start.
+    Replay(Mode, Start),
     /// Judges a configuration.
     Check,
 }
@@ -282,11 +291,18 @@ fn settings_from(verb: Verb, settings: Settings, words: &[&str]) -> Option<Setti
     settings_from(verb, settings.with_option(verb, given)?, rest)
 }
 
+// A replay is in lockstep where that was asked for.
+fn mode_of(lockstep: bool) -> Mode
+    ensures { result ≡ mode_of lockstep }
+{
+    if lockstep { Mode::Lockstep } else { Mode::Free }
+}
+
 fn replay_of(settings: &Settings) -> Command
     ensures { result ≡ replay_of settings.now }
 {
     Command::Replay {
-        lockstep: settings.lockstep,
+        mode: mode_of(settings.lockstep),
         start: settings.start(),
     }
 }
@@ -354,19 +370,12 @@ pub fn command_of(words: &[&str]) -> Option<Command>
     }
 }
 
-/// What a command asks for, if it is built: a replay in lockstep, or a check. Another is refused like words that are not in
-/// the grammar.
+/// What a command asks for, if it is built: a replay, or a check. Another is refused like words that are not in the grammar.
 pub fn built(command: Option<Command>) -> Option<Job>
     ensures { result ≡ built command }
 {
     match command {
-        Some(Command::Replay { lockstep, start }) => {
-            if lockstep {
-                Some(Job::Replay(start))
-            } else {
-                None
-            }
-        }
+        Some(Command::Replay { mode, start }) => Some(Job::Replay(mode, start)),
         Some(Command::Check) => Some(Job::Check),
         _ => None,
     }

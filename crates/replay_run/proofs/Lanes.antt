@@ -1,6 +1,7 @@
 -- What holds of each lane, lane by lane from the highest.
-use Rattle.std.proofs.Common.{◌≡◌, ℕ, zero, suc, ◌+◌, List, [], ◌∷◌, ◌++◌, length, refl, ap, sym, subst, ◌∙◌, arith, append_assoc, add-one}
+use Rattle.std.proofs.Common.{◌≡◌, ℕ, zero, suc, ◌+◌, List, [], ◌∷◌, ◌++◌, length, replicate, slice_index_or, slice_set, refl, ap, sym, subst, ◌∙◌, ◌<◌, arith, append_assoc, add-one}
 use Rattle.std.proofs.lemmas.List.{append-nil}
+use Rattle.std.specs.List.{AllByRecursion, AllZip}
 use Rattle.run_lanes.specs.Gathered.{OfEach}
 
 -- so many lanes are left, and with what holds of them it holds of all
@@ -52,3 +53,26 @@ all_ended Q n xs ys none goes = all_done Q n ys (subst (λ l. GoesOn Q (length l
 pub none_left : {A : Type 0} (xs : List A) → length xs ≡ 0 → xs ≡ []
 none_left [] none = refl
 none_left (x ∷ xs) none = absurd (omega (arith, none))
+
+-- at its place a lane is followed by one of the same number
+pub lane_kept : {A : Type 0} (f : A → ℕ) (n place : ℕ) (xs : List A) (x d : A) → place < n → OfEach (λ (lane : ℕ) (a : A). f a ≡ lane) n xs
+    → f x ≡ f (slice_index_or xs place d) → OfEach (λ (lane : ℕ) (a : A). f a ≡ lane) n (slice_set xs place x)
+lane_kept f zero place xs x d within h same = absurd (omega (arith, within))
+lane_kept f (suc n) place [] x d within h same = absurd h
+lane_kept f (suc n) zero (y ∷ xs) x d within h same = (same ∙ h.0, h.1)
+lane_kept f (suc n) (suc place) (y ∷ xs) x d within h same = (h.0, lane_kept f n place xs x d (omega (arith, within)) h.1 same)
+
+-- each lane beside what became of it
+pub each_becomes : {A B : Type 0} (P : ℕ → A → Type 0) (Q : ℕ → B → Type 0) (R : A → B → Type 0) (n : ℕ) (xs : List A) (ys : List B)
+    → ((lane : ℕ) (x : A) (y : B) → P lane x → R x y → Q lane y) → OfEach P n xs → AllZip R xs ys → OfEach Q n ys
+each_becomes P Q R zero [] [] becomes h did = tt
+each_becomes P Q R zero [] (y ∷ ys) becomes h did = absurd did
+each_becomes P Q R zero (x ∷ xs) ys becomes h did = absurd h
+each_becomes P Q R (suc n) [] ys becomes h did = absurd h
+each_becomes P Q R (suc n) (x ∷ xs) [] becomes h did = absurd did
+each_becomes P Q R (suc n) (x ∷ xs) (y ∷ ys) becomes h did = (becomes n x y h.0 did.0, each_becomes P Q R n xs ys becomes h.1 did.1)
+
+-- what holds of one holds of each of so many that are like it
+pub each_alike : {A : Type 0} (P : A → Type 0) (n : ℕ) (x : A) → P x → AllByRecursion P (replicate n x)
+each_alike P zero x h = tt
+each_alike P (suc n) x h = (h, each_alike P n x h)

@@ -1,3 +1,5 @@
+mod Crossing
+mod Jobs
 mod Lanes
 mod Lasts
 mod Reports

@@ -25,3 +25,11 @@ pub record IsSeated (bank : BankId) (work : Work) : Type 0 where
 -- the figures of a slot, of a list that has two for each: packets, then bytes
 abbrev pub figures_at : List ℕ → Figures
 figures_at totals slot = (packets_of totals slot, bytes_of totals slot)
+
+-- a controller's lane has made all its calls, whichever it is
+abbrev pub EndsAsking : Passing → Passing → Type 0
+EndsAsking before after = HasAsked before.lane after
+
+-- a worker's lane has taken all that it was given, whichever it is
+abbrev pub EndsTaking : PacketPassing → PacketPassing → Type 0
+EndsTaking before after = HasTaken before.lane after

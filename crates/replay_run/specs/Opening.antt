@@ -1,11 +1,21 @@
 -- What the lanes of a run begin with (this project's profile).
-use Rattle.std.specs.Prelude.{◌≡◌, ℕ, ◌-◌, List, []}
-use Rattle.counter_bank.specs.Account.{Account, BankId}
+use Rattle.std.specs.Prelude.{◌≡◌, ℕ, ◌-◌, List, [], length, replicate}
+use Rattle.std.specs.List.{AllByRecursion}
+use Rattle.counter_bank.specs.Account.{Account, BankId, first_seat}
+use Rattle.ctl_lock.specs.Finishing.{seats_from}
+use Rattle.ctl_lock.specs.Locked.{seat_of}
 use Rattle.ctl_lock.specs.Passing.{Passing}
 use Rattle.event_log.specs.Lists.{ListName}
 use Rattle.p4_types.specs.declared.events.Start.{Start}
-use Rattle.pub_snap.specs.Snapshots.{Sight}
+use Rattle.p4_types.specs.declared.tape.TapeRecord.{TapeRecord}
+use Rattle.p4_types.specs.declared.tape.TapeRecord.TheVariants.{Call, Packet, Leave, Meet}
+use Rattle.p4_types.specs.declared.tape.Who.{Who}
+use Rattle.p4_types.specs.declared.tape.Who.TheVariants.{Controller, Worker}
+use Rattle.plane_spec.specs.Entries.{slot_limit}
+use Rattle.plane_spec.specs.Planes.{opened}
+use Rattle.pub_snap.specs.Snapshots.{Feed, Sight}
 use Rattle.replay_run.specs.declared.opening.Post.{Post}
+use Rattle.replay_run.specs.declared.parts.Parts.{Parts}
 use Rattle.run_lanes.specs.Packets.{PacketPassing}
 
 -- the seat once so many of its parts were given away
@@ -31,3 +41,26 @@ IsAsker lane pass = pass.lane ≡ lane
 -- the pass of a worker's lane
 abbrev pub IsTaker : ℕ → PacketPassing → Type 0
 IsTaker lane pass = pass.lane ≡ lane
+
+-- What a run stands on before its first call: nothing is published, the control state is that of its start, each of its 48
+-- lanes has a viewer of the list, each controller's lane has a place in the journal, and all parts of the counters are there.
+pub record AreParts (start : Start) (publisher : Feed) (parts : Parts) : Type 0 where
+  pub start_is : publisher.told.start ≡ start
+  pub nothing : publisher.told.events ≡ []
+  pub none_pending : publisher.pending ≡ []
+  pub control_is : parts.control.control ≡ opened start
+  pub no_step : parts.control.steps ≡ 0
+  pub no_call : parts.control.calls ≡ replicate 32 0
+  pub viewers : AllByRecursion (SeesRun publisher.told.list start) parts.viewers.items
+  pub many : length parts.viewers.items ≡ 48
+  pub slots : parts.bank.slots ≡ slot_limit
+  pub rest_is : parts.rest ≡ first_seat parts.bank.id
+  pub journal_is : parts.journal ≡ seat_of parts.table []
+  pub lanes_are : parts.lanes.items ≡ seats_from parts.table 32
+
+-- the lane of a record of a tape
+abbrev pub who_of : TapeRecord → Who
+who_of (Call lane method message) = Controller lane
+who_of (Leave lane) = Controller lane
+who_of (Packet lane port packet) = Worker lane
+who_of (Meet lane controller call) = Worker lane

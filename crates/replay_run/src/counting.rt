@@ -9,6 +9,7 @@ use lane_work::{Finished, LaneWork};
 use list_types::NoMemory;
 use p4_types::records::Record;
 use plane_read::Counts;
+use slot_totals::SlotCounts;
 use std::alloc::Global;
 use std::marker::Model;
 
@@ -56,6 +57,12 @@ impl Counts for Counted {
         } else {
             (0, 0)
         }
+    }
+}
+
+impl SlotCounts for Counted {
+    fn slots(&self) -> u64 {
+        u64::from(self.slots)
     }
 }
 

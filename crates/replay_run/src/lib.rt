@@ -1,13 +1,15 @@
-//! The lanes of a run before their first call or packet, and the report of lanes that are at their ends.
+//! A replay of a tape by the desk: each of its lanes on a thread of its own, and the report of lanes that are at their ends.
 #![tactic(auto)]
 
 mod counting;
 mod ending;
 mod opening;
+mod order;
+mod parts;
 mod passes;
+mod play;
 mod reporting;
+mod threads;
 
-pub use ending::{end_callers, end_workers};
-pub use opening::{Post, open_posts};
-pub use passes::{open_callers, open_workers};
-pub use reporting::{SLOTS, report};
+pub use play::{replay_free, replay_in_order};
+pub use run_lanes::{Freely, Gate};

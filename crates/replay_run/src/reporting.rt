@@ -67,6 +67,6 @@ pub fn report<J: Naming>(
         sent: List::new(alloc),
         records: List::from_vec(records),
         counts: count_lines(alloc, plane, &counted)?,
-        cells: cell_lines(alloc, plane, &counted, u64::from(SLOTS))?,
+        cells: cell_lines(alloc, plane, &counted)?,
     })
 }

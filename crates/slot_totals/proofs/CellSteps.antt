@@ -1,11 +1,10 @@
 -- The steps of loops over cells and over counters.
 use Rattle.std.proofs.Common.{◌≡◌, ℕ, zero, suc, ◌+◌, ◌-◌, ◌<◌, ◌≤◌, ◌⊎◌, inl, inr, List, [], ◌∷◌, ◌++◌, length, get_or, drop, drop-cons, append_assoc, cond, eqb, refl, sym, ◌∙◌, ap, arith}
 use Rattle.std.proofs.lemmas.Bool.{cases_lt}
-use Rattle.std.proofs.lemmas.List.{get_or_past}
 use Rattle.p4_types.specs.declared.info.Counter.{Counter}
 use Rattle.p4_types.specs.declared.journal.CellLine.{CellLine}
 use Rattle.switch_spec.specs.Counts.{Figures, cell_line, cell_lines_from, cell_lines_of}
-use Rattle.slot_totals.specs.State.{TotalsState, AreBlank, figures}
+use Rattle.slot_totals.specs.State.{AreBlank}
 
 -- the lines of the cells from an index on are that of its cell, and those of the others
 pub cells_step : (g : Figures) (size first id index : ℕ) → index < size
@@ -20,10 +19,6 @@ drop_step : (counters : List Counter) (counter : Counter) (i : ℕ) → i < leng
 drop_step counters counter i in_range is =
     let next : suc i ≡ i + 1 = omega arith in
     drop-cons counters i counter in_range ∙ ap (λ c. c ∷ drop (suc i) counters) (sym is) ∙ ap (λ n. counter ∷ drop n counters) next
-
--- slots that are not kept have counted nothing
-pub blank_behind : (totals : TotalsState) → AreBlank (figures totals) (length totals.counts)
-blank_behind totals x le = get_or_past totals.counts x (0, 0) le
 
 no_line : (g : Figures) (slot id index : ℕ) → g slot ≡ (0, 0) → cell_line g slot id index ≡ []
 no_line g slot id index is = ap (λ (x : ℕ × ℕ). cond (eqb x.0 0) [] (let line : CellLine = record { slot = slot; counter = id; index = index; packets = x.0; bytes = x.1 } in line ∷ [])) is

@@ -3,6 +3,7 @@ ghost use Rattle.std.specs.Prelude.{◌≡◌, ◌++◌, ◌+◌, ◌<◌, ◌�
 ghost use Rattle.switch_spec.specs.Counts.{cell_line, cell_lines_from, cell_lines_of, cell_lines};
 ghost use Rattle.slot_totals.specs.State.{AreBlank};
 
+use crate::slots::SlotCounts;
 use list_types::{List, NoMemory};
 use p4_types::info::Counter;
 use p4_types::journal::CellLine;
@@ -72,16 +73,12 @@ fn push_all<C: Counts>(
     Ok(())
 }
 
-/// The lines of the cells of a plane's indirect counters that have counted something, by rising slot. Only the first `slots`
-/// slots are looked at.
-pub fn cell_lines<C: Counts>(
+/// The lines of the cells of a plane's indirect counters that have counted something, by rising slot.
+pub fn cell_lines<C: SlotCounts>(
     alloc: Global,
     plane: Option<&Plane>,
     counts: &C,
-    slots: u64,
 ) -> Result<List<CellLine>, NoMemory>
-    requires few { slots ≤ 2 ^ 32 }
-    requires blank { AreBlank (C.figures counts.now) slots }
     ensures { IfOk result (λ lines. lines ≡ cell_lines (C.figures counts.now) (option_map (λ plane. plane.now.now) plane.entry)) }
 {
     let mut lines = List::new(alloc);
@@ -89,7 +86,7 @@ pub fn cell_lines<C: Counts>(
         let counters = plane.config().info().info().counters.as_slice();
         push_all(
             counts,
-            slots,
+            counts.slots(),
             u64::from(plane.cells()),
             counters,
             &mut lines,

@@ -5,8 +5,10 @@ mod cells;
 mod counting;
 mod entries;
 mod figure;
+mod slots;
 mod totals;
 
 pub use cells::cell_lines;
 pub use entries::count_lines;
+pub use slots::SlotCounts;
 pub use totals::Totals;

@@ -1,10 +1,11 @@
 //! What the counters of all slots have counted.
 ghost use Rattle.std.specs.Prelude.{◌≡◌, ◌≤◌, ◌<◌, ◌^◌, ◌+◌, length, OnOk, OnErr};
 ghost use Rattle.switch_spec.specs.Counts.{no_figures, figures_after};
-ghost use Rattle.slot_totals.specs.State.{AreBlank, figures};
+ghost use Rattle.slot_totals.specs.State.{figures};
 
 use crate::counting;
 use crate::figure::{Figure, NOTHING};
+use crate::slots::SlotCounts;
 use list_types::NoMemory;
 use p4_types::records::HitMark;
 use plane_read::Counts;
@@ -65,15 +66,6 @@ impl Totals {
         Ok(())
     }
 
-    /// How many slots are kept, from the first on.
-    pub fn slots(&self) -> u64
-        ensures slots { result ≡ length self.now.counts }
-        ensures few { result ≤ 2 ^ 32 }
-        ensures blank { AreBlank (figures self.now) result }
-    {
-        self.counts.len() as u64
-    }
-
     /// What the counter of a slot has counted.
     fn figure(&self, slot: u32) -> Figure
         ensures packets { result.packets ≡ (figures self.now slot).0 }
@@ -92,5 +84,11 @@ impl Counts for Totals {
     fn count(&self, slot: u32) -> (u64, u64) {
         let figure = self.figure(slot);
         (figure.packets, figure.bytes)
+    }
+}
+
+impl SlotCounts for Totals {
+    fn slots(&self) -> u64 {
+        self.counts.len() as u64
     }
 }

@@ -2,3 +2,4 @@ pub mod Copied
 pub mod CountLaws
 pub mod RealLaws
 pub mod ToldLaws
+pub mod TryLaws

@@ -9,11 +9,11 @@ one_more count = min (count + 1) (2 ^ 64 - 1)
 abbrev pub one_more_if : Bool → ℕ → ℕ
 one_more_if came count = if came then one_more count else count
 
--- a count rose, by any number, or stays at its end
+-- a count rose by one, or stays at its end
 abbrev pub Rose : ℕ → ℕ → Type 0
-Rose before now = one_more before ≤ now
+Rose before now = now ≡ one_more before
 
--- a count did not fall, and what it counts came only where it rose
+-- a count did not fall, and where what it counts came, it rose by one
 pub record HasCause (before now : ℕ) (came : Type 0) : Type 0 where
   pub later : before ≤ now
   pub cause : came → Rose before now

@@ -15,6 +15,7 @@ mod net;
 mod packets;
 mod real;
 mod streams;
+mod system;
 mod timing;
 
 pub use answers::{Accepted, Got, Opened, Pulled, Sent, Taken};

@@ -1,7 +1,7 @@
 // A link in memory.
 ghost use Rattle.std.specs.Prelude.{◌≡◌, ◌+◌, ◌<◌, ◌≤◌, ◌↔◌, ◌⊎◌, [], Some, length, IfOk, IsTrue};
 ghost use Rattle.sw_edge.specs.Answers.{PullFits, Pulls, Sends};
-ghost use Rattle.sw_edge.specs.Counts.{HasCause, StaysUnless, one_more};
+ghost use Rattle.sw_edge.specs.Counts.{HasCause, StaysUnless};
 ghost use Rattle.sw_edge.specs.Memory.{is_next, after_call};
 ghost use Rattle.sw_edge.specs.MemoryNet.{IsNextQuiet, course, HeldLink};
 
@@ -83,7 +83,6 @@ impl Link for MemoryLink {
         ensures picked { (result ≡ Pulled.Failed) ↔ IsTrue (is_next self.old.course.failing) }
         ensures counted { self.new.course.failing ≡ after_call self.old.course.failing }
         ensures picked_quiet { (result ≡ Pulled.Quiet) ↔ IsNextQuiet self.old.course }
-        ensures once { result ≡ Pulled.Quiet → self.new.course.quiets ≡ one_more self.old.course.quiets }
     {
         if self.course.fails() {
             return Pulled::Failed;

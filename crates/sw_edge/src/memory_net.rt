@@ -1,6 +1,6 @@
 // A net in memory.
 ghost use Rattle.std.specs.Prelude.{◌≡◌, ◌≤◌, ◌↔◌, ◌⊎◌, ◌∷◌, [], IsTrue};
-ghost use Rattle.sw_edge.specs.Counts.{HasCause, StaysUnless, one_more};
+ghost use Rattle.sw_edge.specs.Counts.{HasCause, StaysUnless};
 ghost use Rattle.sw_edge.specs.Memory.{is_next, after_call};
 ghost use Rattle.sw_edge.specs.MemoryNet.{IsNextQuiet, course, HeldLink, HeldNet, HeldPorts};
 
@@ -87,7 +87,6 @@ impl Net for MemoryNet {
         ensures first { (link : HeldLink) → result ≡ Accepted.Link link → self.old.links ≡ link ∷ self.new.links }
         ensures links_kept { (result ≡ Accepted.Failed) ⊎ (result ≡ Accepted.Quiet) → self.new.links ≡ self.old.links }
         ensures ports { self.new.ports ≡ self.old.ports }
-        ensures once { result ≡ Accepted.Quiet → self.new.course.quiets ≡ one_more self.old.course.quiets }
         ensures counted { self.new.course.failing ≡ after_call self.old.course.failing }
     {
         if self.course.fails() {

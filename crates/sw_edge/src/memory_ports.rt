@@ -1,7 +1,7 @@
 // Ports in memory.
 ghost use Rattle.std.specs.Prelude.{◌≡◌, ◌+◌, ◌<◌, ◌≤◌, ◌↔◌, ◌⊎◌, ◌∷◌, [], Some, length, take, drop, IfOk, IfNone, IfSome, IsTrue, vec_len, vec_capacity};
 ghost use Rattle.sw_edge.specs.Answers.{PacketFits, TakesPacket, Puts};
-ghost use Rattle.sw_edge.specs.Counts.{HasCause, StaysUnless, one_more};
+ghost use Rattle.sw_edge.specs.Counts.{HasCause, StaysUnless};
 ghost use Rattle.sw_edge.specs.Memory.{is_next, after_call};
 ghost use Rattle.sw_edge.specs.MemoryNet.{IsNextQuiet, course, HeldPorts};
 
@@ -114,7 +114,6 @@ impl Ports for MemoryPorts {
         ensures picked { (result ≡ Taken.Failed) ↔ IsTrue (is_next self.old.course.failing) }
         ensures counted { self.new.course.failing ≡ after_call self.old.course.failing }
         ensures picked_quiet { (result ≡ Taken.Quiet) ↔ IsNextQuiet self.old.course }
-        ensures once { result ≡ Taken.Quiet → self.new.course.quiets ≡ one_more self.old.course.quiets }
         ensures room { self.new.room ≡ self.old.room }
     {
         if self.course.fails() {

@@ -1,15 +1,15 @@
 // The standard streams and the clock of the system.
-ghost use Rattle.std.specs.Prelude.{◌≡◌, ◌-◌, ◌^◌, ◌<◌, ◌≤◌, ℕ, length, min, take};
+ghost use Rattle.std.specs.Prelude.{◌≡◌, ◌-◌, ◌^◌, ◌<◌, ◌≤◌, length, take};
 ghost use Rattle.std.specs.Io.KnownBytes.{Appends};
-ghost use Rattle.sw_edge.specs.Answers.{Fits, Takes};
-ghost use Rattle.sw_edge.specs.Real.{Metered};
+ghost use Rattle.sw_edge.specs.Answers.{Fits, Takes, Sends};
+ghost use Rattle.sw_edge.specs.Counts.{HasCause, StaysUnless};
+ghost use Rattle.sw_edge.specs.Real.{Metered, Timed, IsReadBy, IsWrittenBy, IsSentBy, IsTimedBy};
 
-use crate::attempts::{sent_by, taken_by, told_by};
+use crate::attempts::{moment, sent_by, taken_by, told_by};
 use crate::count::raise;
+use crate::system::{Reader, Ticker, Writer};
 use crate::{Clock, Got, Sent, Sink, Source};
-use std::io::{Read, Write};
 use std::marker::Model;
-use std::time;
 
 // How often a read that a signal cut short is tried.
 const TRIES: u32 = 1024;
@@ -37,14 +37,15 @@ impl<R> RealSource<R> {
 }
 
 // Reads until something is told, and tells a fault where signals cut all tries short.
-#[tactic(auto, using(crate::proofs::RealLaws::tries))]
-fn read_some<R: Read>(reader: &mut R, buf: &mut [u8]) -> Got
+#[tactic(auto, using(crate::proofs::RealLaws::tries, crate::proofs::TryLaws::cut_more))]
+fn read_some<R: Reader>(reader: &mut R, buf: &mut [u8]) -> Got
     requires { 0 < length buf.old }
     ensures fits { Fits result buf.new }
     ensures takes { Takes (R.remaining reader.old) (R.remaining reader.new) result buf.new }
+    ensures told { IsReadBy R.answers TRIES reader.old reader.new result }
 {
     for _ in 0..TRIES {
-        let answer = reader.read(buf);
+        let answer = reader.try_read(buf);
         if let Some(got) = told_by(&answer) {
             return got;
         }
@@ -52,13 +53,22 @@ fn read_some<R: Read>(reader: &mut R, buf: &mut [u8]) -> Got
     Got::Failed
 }
 
-impl<R: Read> Source for RealSource<R> {
+impl<R: Reader> Source for RealSource<R> {
     ghost left = { λ s. R.remaining s.stream };
 
     ghost faults = { λ s. s.faults };
 
     #[tactic(auto, using(crate::proofs::RealLaws::streams))]
-    fn read(&mut self, buf: &mut [u8]) -> Got {
+    fn read(&mut self, buf: &mut [u8]) -> Got
+        requires { 0 < length buf.old }
+        ensures fits { Fits result buf.new }
+        ensures takes { Takes (R.remaining self.old.stream) (R.remaining self.new.stream) result buf.new }
+        ensures failed { HasCause self.old.faults self.new.faults (result ≡ Got.Failed) }
+        ensures no_fault { StaysUnless self.old.faults self.new.faults (result ≡ Got.Failed) }
+
+        // It is told what the reader answered to a try that no signal cut short.
+        ensures told { IsReadBy R.answers TRIES self.old.stream self.new.stream result }
+    {
         let got = read_some(&mut self.reader, buf);
         if let Got::Failed = got {
             raise(&mut self.faults);
@@ -90,17 +100,18 @@ impl<W> RealSink<W> {
 }
 
 // Writes the bytes and says how many were written: all of them, or fewer after an error.
-#[tactic(auto, using(crate::proofs::RealLaws::tries))]
-fn write_some<W: Write>(writer: &mut W, bytes: &[u8]) -> usize
+#[tactic(auto, using(crate::proofs::RealLaws::tries, crate::proofs::TryLaws::took_more))]
+fn write_some<W: Writer>(writer: &mut W, bytes: &[u8]) -> usize
     ensures bound { result ≤ length bytes.now }
     ensures bytes { Appends (W.contents writer.old) (W.contents writer.new) (take result bytes.now) }
+    ensures told { IsWrittenBy W.answers (2 ^ 64 - 1) writer.old writer.new (length bytes.now) result }
 {
     let mut done = 0;
     for _ in 0..u64::MAX {
         if done == bytes.len() {
             break;
         }
-        let answer = writer.write(&bytes[done..]);
+        let answer = writer.try_write(&bytes[done..]);
         match taken_by(&answer) {
             Some(count) => done += count,
             None => break,
@@ -109,13 +120,20 @@ fn write_some<W: Write>(writer: &mut W, bytes: &[u8]) -> usize
     done
 }
 
-impl<W: Write> Sink for RealSink<W> {
+impl<W: Writer> Sink for RealSink<W> {
     ghost sent = { λ s. W.contents s.stream };
 
     ghost faults = { λ s. s.faults };
 
     #[tactic(auto, using(crate::proofs::RealLaws::streams))]
-    fn write(&mut self, bytes: &[u8]) -> Sent {
+    fn write(&mut self, bytes: &[u8]) -> Sent
+        ensures sends { Sends (W.contents self.old.stream) (W.contents self.new.stream) result bytes.now }
+        ensures failed { HasCause self.old.faults self.new.faults (result ≡ Sent.Failed) }
+        ensures no_fault { StaysUnless self.old.faults self.new.faults (result ≡ Sent.Failed) }
+
+        // The bytes are tried until all are taken or the writer says that it takes no more, and then flushed.
+        ensures told { IsSentBy W.answers W.flushes (2 ^ 64 - 1) self.old.stream self.new.stream (length bytes.now) result }
+    {
         let done = write_some(&mut self.writer, bytes);
         let flushed = self.writer.flush();
         let sent = sent_by(done, bytes.len(), &flushed);
@@ -134,37 +152,32 @@ pub struct RealClock<C> {
 }
 
 impl<C> Model for RealClock<C> {
-    ghost Value = { ℕ };
+    ghost Value = { Timed C };
 
-    ghost view = { λ c. c.last };
+    ghost view = { λ c. record { clock = c.clock; last = c.last } };
 }
 
 impl<C> RealClock<C> {
     pub fn new(clock: C) -> RealClock<C>
-        ensures { result ≡ 0 }
+        ensures clock { result.clock ≡ clock }
+        ensures last { result.last ≡ 0 }
     {
         RealClock { clock, last: 0 }
     }
 }
 
-// The nanoseconds of a duration, where they fit 64 bits, else the most.
-fn nanoseconds(passed: u128) -> u64
-    ensures { result ≡ min passed (2 ^ 64 - 1) }
-{
-    if passed < 0x1_0000_0000_0000_0000 {
-        passed as u64
-    } else {
-        u64::MAX
-    }
-}
+impl<C: Ticker> Clock for RealClock<C> {
+    ghost last = { λ c. c.last };
 
-impl<C: time::Clock> Clock for RealClock<C> {
-    ghost last = { λ c. c };
+    fn now(&mut self) -> u64
+        ensures later { self.old.last ≤ self.new.last }
+        ensures told { result ≡ self.new.last }
 
-    fn now(&mut self) -> u64 {
-        if let Ok(passed) = self.clock.monotonic() {
-            self.last = self.last.max(nanoseconds(passed.as_nanos()));
-        }
+        // It is told what the clock was read as.
+        ensures clock { self.new.clock ≡ self.old.clock }
+        ensures read { IsTimedBy C.readings self.old.clock self.old.last result }
+    {
+        self.last = moment(self.last, &self.clock.try_now());
         self.last
     }
 }

@@ -5,7 +5,7 @@ use Rattle.p4_types.specs.declared.tape.TapeRecord.{TapeRecord}
 use Rattle.p4_types.specs.declared.tape.TapeRecord.TheVariants.{Call, Packet, Leave, Meet}
 use Rattle.wire_fields.specs.Reading.{◌>>=◌}
 use Rattle.run_spec.specs.Tape.{Lanes, lanes_after}
-use Rattle.run_spec.specs.TapeReading.{Flaw, TooMany, number_at, has_called, some_called, called_at, last_call, meet_at, call_at, packet_at, leave_at, end_at, item_at, or_bad, begins_counted, nothing_after, with_first, records_at}
+use Rattle.run_spec.specs.TapeReading.{Flaw, TooMany, number_at, has_called, some_called, called_at, meet_at, call_at, packet_at, leave_at, end_at, item_at, or_bad, begins_counted, nothing_after, with_first, records_at}
 use Rattle.run_spec.proofs.Readers.{gives}
 use Rattle.run_spec.proofs.TapeItems.{caller, called_found, meet_call, meet_controller, meet_high, meet_size, meet_is}
 use Rattle.tape_form.specs.Calls.{AgreeOnCalls}

@@ -1,5 +1,5 @@
 -- Which lanes have made a call, as the code looks for them.
-use Rattle.std.proofs.Common.{◌≡◌, ℕ, zero, suc, ◌<◌, min, slice_index, replicate, true, false, List, refl, sym, ap, subst, ◌∙◌, arith}
+use Rattle.std.proofs.Common.{◌≡◌, ℕ, zero, suc, ◌<◌, min, slice_index, replicate, true, false, List, refl, ap, subst, arith}
 use Rattle.run_spec.specs.Tape.{no_lanes}
 use Rattle.run_spec.specs.TapeReading.{some_called}
 use Rattle.run_spec.proofs.TapeItems.{called_among}

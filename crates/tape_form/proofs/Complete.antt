@@ -11,7 +11,7 @@ use Rattle.tape_form.specs.declared.fault.TapeFault.{TapeFault}
 use Rattle.tape_form.specs.declared.fault.TapeFault.TheVariants as faults
 use Rattle.tape_form.specs.declared.fault.Ended.{Ended}
 use Rattle.tape_form.specs.declared.fault.Ended.TheVariants.{AtEnd, AtFault, AtLimit}
-use Rattle.tape_form.specs.TapeRead.{InLimits, EndsWithin, EndsSo, judged, UnlessNoMemory, IsOutcome, IsReadFrom, IsAnswerToTape}
+use Rattle.tape_form.specs.TapeRead.{InLimits, EndsWithin, EndsSo, judged, AnswersTo, IsOutcome, IsReadFrom, IsAnswerToTape}
 
 abbrev Answer : Type 0
 Answer = Result (List TapeRecord) TapeFault
@@ -86,7 +86,7 @@ by_outcome : (records : List TapeRecord) (taken rest : List ℕ) (before now : �
 by_outcome records taken rest before now answer part o =
     subst (IsAnswerToTape records) o.same (judged_tape records taken rest o.ended (tape_at MAX_RECORDS taken) part (ends_tape o.ended taken rest before now part.size o.so o.within) refl)
 
-by_answer : (records : List TapeRecord) (taken rest : List ℕ) (before now : ℕ) (answer : Answer) → IsPartOf records taken rest → UnlessNoMemory answer (IsOutcome answer taken (Some rest) before now) → IsAnswerToTape records answer
+by_answer : (records : List TapeRecord) (taken rest : List ℕ) (before now : ℕ) (answer : Answer) → IsPartOf records taken rest → AnswersTo answer taken (Some rest) before now → IsAnswerToTape records answer
 by_answer records taken rest before now (Ok found) part o = by_outcome records taken rest before now (Ok found) part o
 by_answer records taken rest before now (Err faults.NoMemory) part o = tt
 by_answer records taken rest before now (Err faults.Fault) part o = tt

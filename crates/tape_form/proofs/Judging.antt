@@ -11,12 +11,12 @@ use Rattle.tape_form.specs.declared.fault.TapeFault.{TapeFault}
 use Rattle.tape_form.specs.declared.fault.TapeFault.TheVariants as faults
 use Rattle.tape_form.specs.declared.fault.Ended.{Ended}
 use Rattle.tape_form.specs.declared.fault.Ended.TheVariants.{AtEnd, AtFault, AtLimit}
-use Rattle.tape_form.specs.Parsed.{IsFlaw}
-use Rattle.tape_form.specs.declared.parse.ReadFault.{ReadFault}
-use Rattle.tape_form.specs.declared.parse.ReadFault.TheVariants as read_faults
-use Rattle.tape_form.specs.TapeRead.{InLimits, EndsWithin, EndsSo, EndsSoundly, when_whole, when_short, when_bad, judged, refusal, outcome, UnlessNoMemory, IsReadFrom, IsWholeTape, IsBadAt, IsTooLong}
+use Rattle.tape_form.specs.Parsed.{GivesAll}
+use Rattle.tape_form.specs.declared.parse.Flaw.{Flaw as Found}
+use Rattle.tape_form.specs.declared.parse.Flaw.TheVariants as found
+use Rattle.tape_form.specs.TapeRead.{InLimits, EndsWithin, EndsSo, EndsSoundly, when_whole, when_short, when_bad, judged, answer_of, outcome, IsDue, IsOutcome, IsReadFrom, IsUnfinished, IsWholeTape, IsBadAt, IsTooLong}
 
-pub whole_within : (ended : Ended) (bytes : List ℕ) (records : List TapeRecord) → EndsWithin ended bytes → tape_at MAX_RECORDS bytes ≡ Ok records → ended ≡ AtEnd → InLimits records
+whole_within : (ended : Ended) (bytes : List ℕ) (records : List TapeRecord) → EndsWithin ended bytes → tape_at MAX_RECORDS bytes ≡ Ok records → ended ≡ AtEnd → InLimits records
 whole_within ended bytes records within e end =
     let r = read_is_tape MAX_RECORDS bytes records e in
     let size : length bytes ≤ MAX_TAPE = subst (λ (n : Ended). EndsWithin n bytes) end within in
@@ -25,24 +25,16 @@ whole_within ended bytes records within e end =
 left_within : (bytes : List ℕ) (left : ℕ) → tape_at MAX_RECORDS bytes ≡ Err (Bad left) → left ≤ length bytes
 left_within bytes left e = (bad_is_exact MAX_RECORDS bytes left e).1
 
-pub flaw_within : (bytes : List ℕ) (fault : ReadFault) → IsFlaw fault (tape_at MAX_RECORDS bytes) → (left : ℕ) → fault ≡ read_faults.Bad left → left ≤ length bytes
-flaw_within bytes read_faults.NoMemory h left e = absurd cc
-flaw_within bytes (read_faults.Bad l) h left e = let same : l ≡ left = cc in left_within bytes left (subst (λ (n : ℕ). tape_at MAX_RECORDS bytes ≡ Err (Bad n)) same h)
-flaw_within bytes (read_faults.TooMany l) h left e = absurd cc
+pub kept_within : {X E : Type 0} (view : X → List TapeRecord) (ended : Ended) (bytes : List ℕ) (read : Result (Result X E) Found) → EndsWithin ended bytes → GivesAll view read (tape_at MAX_RECORDS bytes)
+    → ended ≡ AtEnd → IfOk read (λ kept. IfOk kept (λ x. InLimits (view x)))
+kept_within view ended bytes (Ok (Ok x)) within h end = subst InLimits (sym h.1) (whole_within ended bytes h.0 within h.2 end)
+kept_within view ended bytes (Ok (Err e)) within h end = tt
+kept_within view ended bytes (Err flaw) within h end = tt
 
-unless : (answer : Result (List TapeRecord) TapeFault) (claim : Type 0) → claim → UnlessNoMemory answer claim
-unless (Ok records) claim h = h
-unless (Err faults.NoMemory) claim h = tt
-unless (Err (faults.Bad place)) claim h = h
-unless (Err faults.TooLong) claim h = h
-unless (Err faults.Fault) claim h = h
-
--- the answer to a flaw is the outcome
-pub refused : (bytes : List ℕ) (ended : Ended) (fault : ReadFault) (answer : Result (List TapeRecord) TapeFault) → IsFlaw fault (tape_at MAX_RECORDS bytes) → refusal (length bytes) ended fault ≡ answer
-    → UnlessNoMemory answer (outcome bytes ended ≡ answer)
-refused bytes ended read_faults.NoMemory answer h e = subst (λ (a : Result (List TapeRecord) TapeFault). UnlessNoMemory a (outcome bytes ended ≡ a)) e tt
-refused bytes ended (read_faults.Bad left) answer h e = unless answer _ (ap (judged (length bytes) ended) h ∙ e)
-refused bytes ended (read_faults.TooMany left) answer h e = unless answer _ (ap (judged (length bytes) ended) h ∙ e)
+pub flaw_within : {X E : Type 0} (view : X → List TapeRecord) (bytes : List ℕ) (read : Result (Result X E) Found) → GivesAll view read (tape_at MAX_RECORDS bytes) → (left : ℕ) → IsErrOf read (found.Bad left) → left ≤ length bytes
+flaw_within view bytes (Ok kept) h left e = absurd cc
+flaw_within view bytes (Err (found.Bad l)) h left e = let same : l ≡ left = cc in left_within bytes left (subst (λ (n : ℕ). tape_at MAX_RECORDS bytes ≡ Err (Bad n)) same h)
+flaw_within view bytes (Err (found.TooMany l)) h left e = absurd cc
 
 -- ---- what each answer comes from
 
@@ -118,6 +110,32 @@ judged_long taken AtFault (Err (Bad zero)) e = absurd cc
 judged_long taken AtLimit (Err (Bad zero)) e = inl refl
 judged_long taken ended (Err (Bad (suc left))) e =
     elim (bad_is (taken - suc left) ended) [ inl b ↦ absurd (bad_or_long (sym b ∙ e)) | inr b ↦ inl b.1 ]
+
+-- a bad byte is answered as is due
+due_bad : (place : ℕ) (ended : Ended) (due : Answer) → due ≡ when_bad place ended → IsDue (when_bad place ended) due
+due_bad place ended due e =
+    elim (bad_is place ended) [
+      | inl b ↦ subst (λ (a : Answer). IsDue a due) (sym b) (e ∙ b)
+      | inr b ↦ subst (λ (a : Answer). IsDue a due) (sym b.0) (e ∙ b.0)
+    ]
+
+answered : {X E : Type 0} (view : X → List TapeRecord) (bytes : List ℕ) (ended : Ended) (read : Result (Result X E) Found) → GivesAll view read (tape_at MAX_RECORDS bytes) → IsDue (answer_of view (length bytes) ended read) (outcome bytes ended)
+answered view bytes AtEnd (Ok (Ok x)) h = ap (judged (length bytes) AtEnd) h.2 ∙ ap good (sym h.1)
+answered view bytes AtFault (Ok (Ok x)) h = ap (judged (length bytes) AtFault) h.2
+answered view bytes AtLimit (Ok (Ok x)) h = ap (judged (length bytes) AtLimit) h.2
+answered view bytes AtEnd (Ok (Err e)) h = (h.0, ap (judged (length bytes) AtEnd) h.2)
+answered view bytes AtFault (Ok (Err e)) h = ap (judged (length bytes) AtFault) h.2
+answered view bytes AtLimit (Ok (Err e)) h = ap (judged (length bytes) AtLimit) h.2
+answered view bytes ended (Err (found.TooMany left)) h = ap (judged (length bytes) ended) h
+answered view bytes AtEnd (Err (found.Bad zero)) h = ap (judged (length bytes) AtEnd) h
+answered view bytes AtFault (Err (found.Bad zero)) h = ap (judged (length bytes) AtFault) h
+answered view bytes AtLimit (Err (found.Bad zero)) h = ap (judged (length bytes) AtLimit) h
+answered view bytes ended (Err (found.Bad (suc left))) h = due_bad (length bytes - suc left) ended (outcome bytes ended) (ap (judged (length bytes) ended) h)
+
+-- the answer to what was read is the outcome, or want of memory in the place of records
+pub is_due : {X E : Type 0} (view : X → List TapeRecord) (bytes : List ℕ) (ended : Ended) (read : Result (Result X E) Found) (answer : Result (List TapeRecord) TapeFault) → GivesAll view read (tape_at MAX_RECORDS bytes)
+    → answer_of view (length bytes) ended read ≡ answer → IsDue answer (outcome bytes ended)
+is_due view bytes ended read answer h e = subst (λ (a : Answer). IsDue a (outcome bytes ended)) e (answered view bytes ended read h)
 
 -- what a bad place comes from
 record FromBad (taken : ℕ) (ended : Ended) (read : Result (List TapeRecord) Flaw) (place : ℕ) : Type 0 where
@@ -201,7 +219,22 @@ fault_rose old new before now r =
     let o = r.answers in
     subst (λ (n : Ended). EndsSo n new before now) (judged_fault (length r.taken) o.ended (tape_at MAX_RECORDS r.taken) o.same) o.so
 
+whole_within_limit : (taken : List ℕ) (new : Option (List ℕ)) (before now : ℕ) (records : List TapeRecord) → IsOutcome (Ok records) taken new before now → (now ≡ before) × (length taken ≤ MAX_TAPE)
+whole_within_limit taken new before now records o =
+    let j = judged_ok (length taken) o.ended (tape_at MAX_RECORDS taken) records o.same in
+    ((soundly_at_end new before now o.ended j.1 o.soundly).1, subst (λ (n : Ended). EndsWithin n taken) j.1 o.within)
+
+pub unfinished : (old new : Option (List ℕ)) (before now : ℕ) → IsReadFrom old new before now (Err faults.NoMemory) → IsUnfinished old new before now
+unfinished old new before now r =
+    elim r.answers [
+      | inl b ↦ record { taken = r.taken; consumed = r.from.consumed; within = b.within; sound = b.sound }
+      | inr o ↦ let w = whole_within_limit r.taken new before now o.0 o.1 in record { taken = r.taken; consumed = r.from.consumed; within = w.1; sound = w.0 }
+    ]
+
 -- the same, of any answer
+pub if_no_memory : (old new : Option (List ℕ)) (before now : ℕ) (answer : Result (List TapeRecord) TapeFault) → IsReadFrom old new before now answer → IsErrOf answer faults.NoMemory → IsUnfinished old new before now
+if_no_memory old new before now answer r e = unfinished old new before now (subst (IsReadFrom old new before now) e r)
+
 pub if_bad : (old new : Option (List ℕ)) (before now : ℕ) (answer : Result (List TapeRecord) TapeFault) → IsReadFrom old new before now answer → (place : ℕ) → IsErrOf answer (faults.Bad place) → IsBadAt old new place
 if_bad old new before now answer r place e = bad_at old new before now place (subst (IsReadFrom old new before now) e r)
 

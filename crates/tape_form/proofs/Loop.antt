@@ -7,10 +7,8 @@ use Rattle.run_spec.specs.Tape.{Lanes, no_lanes, lanes_after}
 use Rattle.run_spec.specs.TapeReading.{Flaw, Bad, or_bad, item_at, nothing_after, with_first, records_at, text_at}
 use Rattle.tape_form.specs.declared.parse.Flaw.{Flaw as Found}
 use Rattle.tape_form.specs.declared.parse.Flaw.TheVariants as found
-use Rattle.tape_form.specs.declared.parse.ReadFault.{ReadFault}
-use Rattle.tape_form.specs.declared.parse.ReadFault.TheVariants as faults
 use Rattle.tape_form.specs.Calls.{lanes_of, AgreeOnCalls}
-use Rattle.tape_form.specs.Parsed.{Fails, IsFlaw, IsFound, fault_of}
+use Rattle.tape_form.specs.Parsed.{IsFound, IsKept, Grows}
 use Rattle.tape_form.proofs.Agreeing.{records_same}
 use Rattle.tape_form.proofs.Callers.{none_counted}
 
@@ -38,12 +36,10 @@ goes_on front limit i lanes next rest first after total lt h agree so_far =
     ∙ ap (with_first first) (records_same (limit - (i + 1)) (lanes_after lanes first) next agree after) in
     sym (ap (with_front front) one ∙ regroup front first (records_at (limit - (i + 1)) next after)) ∙ so_far
 
-pub stops : (e : ReadFault) (front : List TapeRecord) (limit i : ℕ) (lanes : Lanes) (rest : List ℕ) (total : Result (List TapeRecord) Flaw) → i < limit → Fails e (item_at lanes rest)
-    → with_front front (records_at (limit - i) lanes rest) ≡ total → IsFlaw e total
-stops faults.NoMemory front limit i lanes rest total lt h so_far = tt
-stops (faults.Bad left) front limit i lanes rest total lt h so_far =
+pub stops : (left : ℕ) (front : List TapeRecord) (limit i : ℕ) (lanes : Lanes) (rest : List ℕ) (total : Result (List TapeRecord) Flaw) → i < limit → item_at lanes rest ≡ Err left
+    → with_front front (records_at (limit - i) lanes rest) ≡ total → total ≡ Err (Bad left)
+stops left front limit i lanes rest total lt h so_far =
     sym so_far ∙ ap (with_front front) (by_item limit i lanes rest lt ∙ ap (λ (r : Result (Option TapeRecord × List ℕ) ℕ). or_bad r >>= behind (limit - (i + 1)) lanes) h)
-stops (faults.TooMany left) front limit i lanes rest total lt h so_far = absurd h
 
 at_end : (front : List TapeRecord) (limit i : ℕ) (lanes : Lanes) (rest after : List ℕ) → i < limit → item_at lanes rest ≡ Ok (None, after) → with_front front (records_at (limit - i) lanes rest) ≡ with_front front (nothing_after after)
 at_end front limit i lanes rest after lt h = ap (with_front front) (by_item limit i lanes rest lt ∙ ap (λ (r : Result (Option TapeRecord × List ℕ) ℕ). or_bad r >>= behind (limit - (i + 1)) lanes) h)
@@ -62,7 +58,7 @@ none_left front limit i lanes rest all = let none : limit - i ≡ 0 = omega (ari
 
 -- behind as many records as there may be
 pub stops_alone : (flaw : Found) (front : List TapeRecord) (limit i : ℕ) (lanes : Lanes) (rest : List ℕ) (total : Result (List TapeRecord) Flaw) → i ≡ limit → IsFound flaw (records_at 0 lanes rest)
-    → with_front front (records_at (limit - i) lanes rest) ≡ total → IsFlaw (fault_of flaw) total
+    → with_front front (records_at (limit - i) lanes rest) ≡ total → IsFound flaw total
 stops_alone (found.Bad left) front limit i lanes rest total all h so_far = sym so_far ∙ none_left front limit i lanes rest all ∙ ap (with_front front) h
 stops_alone (found.TooMany left) front limit i lanes rest total all h so_far = sym so_far ∙ none_left front limit i lanes rest all ∙ ap (with_front front) h
 
@@ -82,6 +78,28 @@ begins limit counts bytes is =
     ∙ ap (λ (n : List ℕ). records_at (limit - 0) (lanes_of n) bytes) is
     ∙ records_same (limit - 0) (lanes_of (replicate 32 0)) no_lanes none_counted bytes
     ∙ (let whole : limit - 0 ≡ limit = omega arith in ap (λ (n : ℕ). records_at n no_lanes bytes) whole)
+
+-- some records were read, which are kept unless there was no memory for them, and the rest goes on so that the whole is read
+pub record SoFar {X E : Type 0} (view : X → List TapeRecord) (kept : Result X E) (rest whole : Result (List TapeRecord) Flaw) : Type 0 where
+  pub front : List TapeRecord
+  pub is_kept : IsKept view kept front
+  pub read : with_front front rest ≡ whole
+
+grown : {X E : Type 0} (view : X → List TapeRecord) (kept more : Result X E) (front : List TapeRecord) (first : TapeRecord) → IsKept view kept front → Grows view kept more first → IsKept view more (front ++ first ∷ [])
+grown view (Ok x) (Ok y) front first is grows = grows ∙ ap (λ (w : List TapeRecord). w ++ first ∷ []) is
+grown view (Err e) (Ok y) front first is grows = absurd grows
+grown view (Ok x) (Err f) front first is grows = tt
+grown view (Err e) (Err f) front first is grows = tt
+
+-- with one more record
+pub keeps_on : {X E : Type 0} (view : X → List TapeRecord) (kept more : Result X E) (limit i : ℕ) (lanes next : Lanes) (rest : List ℕ) (first : TapeRecord) (after : List ℕ) (total : Result (List TapeRecord) Flaw) → i < limit
+    → item_at lanes rest ≡ Ok (Some first, after) → AgreeOnCalls (lanes_after lanes first) next → Grows view kept more first
+    → SoFar view kept (records_at (limit - i) lanes rest) total → SoFar view more (records_at (limit - (i + 1)) next after) total
+keeps_on view kept more limit i lanes next rest first after total lt h agree grows so_far = record {
+  front = so_far.front ++ first ∷ [];
+  is_kept = grown view kept more so_far.front first so_far.is_kept grows;
+  read = goes_on so_far.front limit i lanes next rest first after total lt h agree so_far.read;
+}
 
 -- text is wanted where nothing is left
 pub text_missing : (text rest : List ℕ) (i : ℕ) (total : Result (List ℕ) ℕ) → i < length text → length rest < 1 → text_at (drop i text) rest ≡ total → total ≡ Err 0

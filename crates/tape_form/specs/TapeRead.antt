@@ -9,8 +9,8 @@ use Rattle.run_spec.specs.TapeReading.{Flaw, Bad, TooMany, tape_at}
 use Rattle.tape_form.specs.declared.limits.TheConstants.{MAX_TAPE, MAX_RECORDS}
 use Rattle.tape_form.specs.declared.fault.TapeFault.{TapeFault}
 use Rattle.tape_form.specs.declared.fault.TapeFault.TheVariants as faults
-use Rattle.tape_form.specs.declared.parse.ReadFault.{ReadFault}
-use Rattle.tape_form.specs.declared.parse.ReadFault.TheVariants as read_faults
+use Rattle.tape_form.specs.declared.parse.Flaw.{Flaw as Found}
+use Rattle.tape_form.specs.declared.parse.Flaw.TheVariants as found
 use Rattle.tape_form.specs.declared.fault.Ended.{Ended}
 use Rattle.tape_form.specs.declared.fault.Ended.TheVariants.{AtEnd, AtFault, AtLimit}
 
@@ -50,11 +50,30 @@ judged taken ended (Err (Bad (suc left))) = when_bad (taken - suc left) ended
 abbrev pub outcome : List ℕ → Ended → Result (List TapeRecord) TapeFault
 outcome taken ended = judged (length taken) ended (tape_at MAX_RECORDS taken)
 
--- the answer where so many bytes were not read as a tape: that of their flaw, or want of memory
-abbrev pub refusal : ℕ → Ended → ReadFault → Result (List TapeRecord) TapeFault
-refusal taken ended read_faults.NoMemory = Err faults.NoMemory
-refusal taken ended (read_faults.Bad left) = judged taken ended (Err (Bad left))
-refusal taken ended (read_faults.TooMany left) = judged taken ended (Err (TooMany left))
+-- the answer where the bytes that were taken are a tape, but there was no memory for its records
+abbrev pub when_unkept : Ended → Result (List TapeRecord) TapeFault
+when_unkept AtEnd = Err faults.NoMemory
+when_unkept AtFault = Err faults.Fault
+when_unkept AtLimit = Err faults.TooLong
+
+-- the answer where they are a tape, whose records are kept, seen by view, or not
+abbrev pub kept_answer : {X E : Type 0} → (X → List TapeRecord) → Ended → Result X E → Result (List TapeRecord) TapeFault
+kept_answer view ended (Ok x) = when_whole (view x) ended
+kept_answer view ended (Err e) = when_unkept ended
+
+-- the answer to what so many bytes were read as, and to whether records are kept
+abbrev pub answer_of : {X E : Type 0} → (X → List TapeRecord) → ℕ → Ended → Result (Result X E) Found → Result (List TapeRecord) TapeFault
+answer_of view taken ended (Ok kept) = kept_answer view ended kept
+answer_of view taken ended (Err (found.Bad left)) = judged taken ended (Err (Bad left))
+answer_of view taken ended (Err (found.TooMany left)) = judged taken ended (Err (TooMany left))
+
+-- the answer is the one that is due, but want of memory may come in the place of records, and of nothing else
+abbrev pub IsDue : Result (List TapeRecord) TapeFault → Result (List TapeRecord) TapeFault → Type 0
+IsDue (Ok records) due = due ≡ Ok records
+IsDue (Err faults.NoMemory) due = (records : List TapeRecord) × (due ≡ Ok records)
+IsDue (Err (faults.Bad place)) due = due ≡ Err (faults.Bad place)
+IsDue (Err faults.TooLong) due = due ≡ Err faults.TooLong
+IsDue (Err faults.Fault) due = due ≡ Err faults.Fault
 
 -- no more bytes were taken than the end of the taking allows
 abbrev pub EndsWithin : Ended → List ℕ → Type 0
@@ -74,14 +93,6 @@ EndsSoundly AtEnd new before now = IsAtEnd new × (now ≡ before)
 EndsSoundly AtFault new before now = Rose before now
 EndsSoundly AtLimit new before now = now ≡ before
 
--- a claim of an answer, unless memory ran out
-abbrev pub UnlessNoMemory : Result (List TapeRecord) TapeFault → Type 0 → Type 0
-UnlessNoMemory (Ok records) claim = claim
-UnlessNoMemory (Err faults.NoMemory) claim = ⊤
-UnlessNoMemory (Err (faults.Bad place)) claim = claim
-UnlessNoMemory (Err faults.TooLong) claim = claim
-UnlessNoMemory (Err faults.Fault) claim = claim
-
 -- the answer is the outcome of what was taken, as the taking ended
 pub record IsOutcome (answer : Result (List TapeRecord) TapeFault) (taken : List ℕ) (new : Option (List ℕ)) (before now : ℕ) : Type 0 where
   pub ended : Ended
@@ -95,11 +106,29 @@ pub record IsTakenFrom (old new : Option (List ℕ)) (taken : List ℕ) : Type 0
   pub consumed : Consumes old new taken
   pub size : length taken ≤ suc MAX_TAPE
 
--- Bytes were taken from the source, no more than one behind the limit, and the answer is their outcome, unless memory ran out.
+-- The taking broke off for want of memory: the source has not failed, and no more was taken than a tape may have.
+pub record BreaksOff (taken : List ℕ) (before now : ℕ) : Type 0 where
+  pub sound : now ≡ before
+  pub within : length taken ≤ MAX_TAPE
+
+-- Want of memory comes where the taking breaks off, or in the place of the records of a whole tape: it hides no fault of the
+-- source, no bad byte and no limit.
+abbrev pub WantsMemory : List ℕ → Option (List ℕ) → ℕ → ℕ → Type 0
+WantsMemory taken new before now = BreaksOff taken before now ⊎ ((records : List TapeRecord) × IsOutcome (Ok records) taken new before now)
+
+-- the answer is the outcome of what was taken, or it is for want of memory
+abbrev pub AnswersTo : Result (List TapeRecord) TapeFault → List ℕ → Option (List ℕ) → ℕ → ℕ → Type 0
+AnswersTo (Ok records) taken new before now = IsOutcome (Ok records) taken new before now
+AnswersTo (Err faults.NoMemory) taken new before now = WantsMemory taken new before now
+AnswersTo (Err (faults.Bad place)) taken new before now = IsOutcome (Err (faults.Bad place)) taken new before now
+AnswersTo (Err faults.TooLong) taken new before now = IsOutcome (Err faults.TooLong) taken new before now
+AnswersTo (Err faults.Fault) taken new before now = IsOutcome (Err faults.Fault) taken new before now
+
+-- Bytes were taken from the source, no more than one behind the limit, and the answer is their outcome, or for want of memory.
 pub record IsReadFrom (old new : Option (List ℕ)) (before now : ℕ) (answer : Result (List TapeRecord) TapeFault) : Type 0 where
   pub taken : List ℕ
   pub from : IsTakenFrom old new taken
-  pub answers : UnlessNoMemory answer (IsOutcome answer taken new before now)
+  pub answers : AnswersTo answer taken new before now
 
 -- all that was left was taken, and it is the tape of these records
 pub record IsWholeTape (old new : Option (List ℕ)) (records : List TapeRecord) : Type 0 where
@@ -109,6 +138,13 @@ pub record IsWholeTape (old new : Option (List ℕ)) (records : List TapeRecord)
   pub at_end : IsAtEnd new
   pub size : length taken ≤ MAX_TAPE
   pub count : length records ≤ MAX_RECORDS
+
+-- bytes were taken from the source that are no more than a tape may have, and the source has not failed
+pub record IsUnfinished (old new : Option (List ℕ)) (before now : ℕ) : Type 0 where
+  pub taken : List ℕ
+  pub consumed : Consumes old new taken
+  pub within : length taken ≤ MAX_TAPE
+  pub sound : now ≡ before
 
 -- what was taken is no tape, and none begins with more of it than so many bytes
 pub record IsBadAt (old new : Option (List ℕ)) (place : ℕ) : Type 0 where

@@ -3,14 +3,13 @@ ghost use Rattle.std.specs.Prelude.{◌≡◌, ◌+◌, ◌<◌, ◌≤◌, ◌^
 ghost use Rattle.run_spec.specs.Tape.{Lanes, no_lanes, lanes_after, IsRecord};
 ghost use Rattle.run_spec.specs.TapeReading.{method_of, number_at, bytes_at, call_at, packet_at, leave_at, some_called, called_at, last_call, meet_at, end_at, item_at, text_at, records_at, tape_at};
 ghost use Rattle.tape_form.specs.Calls.{lanes_of, AgreeOnCalls};
-ghost use Rattle.tape_form.specs.Parsed.{Finds, Gives, GivesAll, IsEmptied, EndsAlone, behind_kind, fault_of};
+ghost use Rattle.tape_form.specs.Parsed.{record_of, item_of, Finds, Grows, GivesAll, IsEmptied, EndsAlone, behind_kind};
 ghost use Rattle.tape_form.specs.declared.parse.Flaw.TheVariants as flaws;
-ghost use Rattle.tape_form.specs.declared.parse.ReadFault.TheVariants as faults;
 
 use list_types::ByteList;
 use p4_types::calls::Method;
 use p4_types::tape::TapeRecord;
-use std::alloc::{AllocError, AllocFailed, Global};
+use std::alloc::{AllocError, Global};
 
 /// The first bad byte, as the number of bytes left from it on; 0 where bytes are missing.
 #[derive(Clone, Copy)]
@@ -27,12 +26,27 @@ pub enum Flaw {
     TooMany(usize),
 }
 
-/// Why bytes were not read: a flaw, or no memory.
+/// A record as it stands on a tape: its message or packet lies there still.
 #[derive(Clone, Copy)]
-pub enum ReadFault {
-    NoMemory,
-    Bad(usize),
-    TooMany(usize),
+pub enum Seen<'a> {
+    Call {
+        lane: u16,
+        method: Method,
+        message: &'a [u8],
+    },
+    Packet {
+        lane: u16,
+        port: u16,
+        packet: &'a [u8],
+    },
+    Leave {
+        lane: u16,
+    },
+    Meet {
+        lane: u16,
+        controller: u16,
+        call: u32,
+    },
 }
 
 impl From<BadByte> for Flaw {
@@ -40,42 +54,6 @@ impl From<BadByte> for Flaw {
 
     fn from(bad: BadByte) -> Flaw {
         Flaw::Bad(bad.left)
-    }
-}
-
-impl From<BadByte> for ReadFault {
-    ghost from_gives = { λ bad e. e ≡ faults.Bad bad.left };
-
-    fn from(bad: BadByte) -> ReadFault {
-        ReadFault::Bad(bad.left)
-    }
-}
-
-impl From<Flaw> for ReadFault {
-    ghost from_gives = { λ flaw e. e ≡ fault_of flaw };
-
-    fn from(flaw: Flaw) -> ReadFault {
-        match flaw {
-            Flaw::Bad(left) => ReadFault::Bad(left),
-            Flaw::TooMany(left) => ReadFault::TooMany(left),
-        }
-    }
-}
-
-impl From<AllocError> for ReadFault {
-    ghost from_gives = { λ _ e. e ≡ faults.NoMemory };
-
-    fn from(_: AllocError) -> ReadFault {
-        ReadFault::NoMemory
-    }
-}
-
-impl<T: Drop> From<AllocFailed<T>> for ReadFault {
-    ghost from_gives = { λ _ e. e ≡ faults.NoMemory };
-
-    fn from(failed: AllocFailed<T>) -> ReadFault {
-        drop(failed);
-        ReadFault::NoMemory
     }
 }
 
@@ -118,13 +96,6 @@ fn front_at(count: usize, bytes: &[u8]) -> Result<(&[u8], &[u8]), BadByte>
     Ok(bytes.split_at(count))
 }
 
-/// These bytes, in memory of their own.
-fn kept(alloc: Global, bytes: &[u8]) -> Result<ByteList, AllocError>
-    ensures { IfOk result (λ kept. kept ≡ bytes.now) }
-{
-    Ok(ByteList::from_vec(Vec::from_slice(alloc, bytes)?))
-}
-
 /// The method of this number, 1 to 6.
 fn method_of(number: u8) -> Method
     ensures { result ≡ method_of number }
@@ -141,46 +112,46 @@ fn method_of(number: u8) -> Method
 
 /// What stands behind the kind of a call.
 #[tactic(auto, unfolding(run_spec::specs::TapeReading::call_at))]
-fn call_at(alloc: Global, bytes: &[u8]) -> Result<(TapeRecord, &[u8]), ReadFault>
-    ensures { Gives (λ x. (x.0, x.1.now)) result (call_at bytes.now) }
+fn call_at(bytes: &[u8]) -> Result<(Seen<'_>, &[u8]), BadByte>
+    ensures { Finds (λ x. (record_of x.0, x.1.now)) result (call_at bytes.now) }
 {
     let (lane, rest) = number_at(2, 0, 31, bytes)?;
     let (size, rest) = number_at(4, 1, 8_388_609, rest)?;
     let (method, rest) = number_at(1, 1, 6, rest)?;
     let (message, rest) = front_at(size as usize - 1, rest)?;
-    let record = TapeRecord::Call {
+    let seen = Seen::Call {
         lane: lane as u16,
         method: method_of(method as u8),
-        message: kept(alloc, message)?,
+        message,
     };
-    Ok((record, rest))
+    Ok((seen, rest))
 }
 
 /// What stands behind the kind of a packet.
 #[tactic(auto, unfolding(run_spec::specs::TapeReading::packet_at))]
-fn packet_at(alloc: Global, bytes: &[u8]) -> Result<(TapeRecord, &[u8]), ReadFault>
-    ensures { Gives (λ x. (x.0, x.1.now)) result (packet_at bytes.now) }
+fn packet_at(bytes: &[u8]) -> Result<(Seen<'_>, &[u8]), BadByte>
+    ensures { Finds (λ x. (record_of x.0, x.1.now)) result (packet_at bytes.now) }
 {
     let (lane, rest) = number_at(2, 0, 15, bytes)?;
     let (size, rest) = number_at(4, 2, 9218, rest)?;
     let (port, rest) = number_at(2, 0, 510, rest)?;
     let (packet, rest) = front_at(size as usize - 2, rest)?;
-    let record = TapeRecord::Packet {
+    let seen = Seen::Packet {
         lane: lane as u16,
         port: port as u16,
-        packet: kept(alloc, packet)?,
+        packet,
     };
-    Ok((record, rest))
+    Ok((seen, rest))
 }
 
 /// What stands behind the kind of a stream's end.
 #[tactic(auto, unfolding(run_spec::specs::TapeReading::leave_at))]
-fn leave_at(bytes: &[u8]) -> Result<(TapeRecord, &[u8]), BadByte>
-    ensures { Finds (λ x. (x.0, x.1.now)) result (leave_at bytes.now) }
+fn leave_at(bytes: &[u8]) -> Result<(Seen<'_>, &[u8]), BadByte>
+    ensures { Finds (λ x. (record_of x.0, x.1.now)) result (leave_at bytes.now) }
 {
     let (lane, rest) = number_at(2, 0, 31, bytes)?;
     let (_, rest) = number_at(4, 0, 0, rest)?;
-    Ok((TapeRecord::Leave { lane: lane as u16 }, rest))
+    Ok((Seen::Leave { lane: lane as u16 }, rest))
 }
 
 /// Whether one of the controllers' lanes has made a call.
@@ -221,20 +192,20 @@ fn last_call(calls: &[u32; 32], controller: u16) -> u32
 
 /// What stands behind the kind of a meet.
 #[tactic(auto, unfolding(run_spec::specs::TapeReading::meet_at))]
-fn meet_at<'a>(calls: &[u32; 32], bytes: &'a [u8]) -> Result<(TapeRecord, &'a [u8]), BadByte>
-    ensures { Finds (λ x. (x.0, x.1.now)) result (meet_at (lanes_of calls.now) bytes.now) }
+fn meet_at<'a>(calls: &[u32; 32], bytes: &'a [u8]) -> Result<(Seen<'a>, &'a [u8]), BadByte>
+    ensures { Finds (λ x. (record_of x.0, x.1.now)) result (meet_at (lanes_of calls.now) bytes.now) }
 {
     let (lane, rest) = number_at(2, 0, 15, bytes)?;
     let (_, rest) = number_at(4, 6, 6, rest)?;
     let (_, rest) = number_at(1, 0, 0, rest)?;
     let (controller, rest) = called_at(calls, rest)?;
     let (call, rest) = number_at(4, 1, last_call(calls, controller), rest)?;
-    let record = TapeRecord::Meet {
+    let seen = Seen::Meet {
         lane: lane as u16,
         controller,
         call,
     };
-    Ok((record, rest))
+    Ok((seen, rest))
 }
 
 /// What stands behind the kind of the end record.
@@ -275,12 +246,11 @@ fn kind_at<'a>(calls: &[u32; 32], bytes: &'a [u8]) -> Result<(Kind, &'a [u8]), B
 
 /// What stands behind a kind.
 fn behind_kind<'a>(
-    alloc: Global,
     kind: Kind,
     calls: &[u32; 32],
     rest: &'a [u8],
-) -> Result<(Option<TapeRecord>, &'a [u8]), ReadFault>
-    ensures { Gives (λ x. (x.0, x.1.now)) result (behind_kind kind (lanes_of calls.now) rest.now) }
+) -> Result<(Option<Seen<'a>>, &'a [u8]), BadByte>
+    ensures { Finds (λ x. (item_of x.0, x.1.now)) result (behind_kind kind (lanes_of calls.now) rest.now) }
 {
     match kind {
         Kind::End => {
@@ -288,11 +258,11 @@ fn behind_kind<'a>(
             Ok((None, rest))
         }
         Kind::Call => {
-            let (call, rest) = call_at(alloc, rest)?;
+            let (call, rest) = call_at(rest)?;
             Ok((Some(call), rest))
         }
         Kind::Packet => {
-            let (packet, rest) = packet_at(alloc, rest)?;
+            let (packet, rest) = packet_at(rest)?;
             Ok((Some(packet), rest))
         }
         Kind::Leave => {
@@ -307,15 +277,11 @@ fn behind_kind<'a>(
 }
 
 /// A record, or none for the end record, and the bytes after it, where the lanes have made so many calls.
-fn item_at<'a>(
-    alloc: Global,
-    calls: &[u32; 32],
-    bytes: &'a [u8],
-) -> Result<(Option<TapeRecord>, &'a [u8]), ReadFault>
-    ensures { Gives (λ x. (x.0, x.1.now)) result (item_at (lanes_of calls.now) bytes.now) }
+fn item_at<'a>(calls: &[u32; 32], bytes: &'a [u8]) -> Result<(Option<Seen<'a>>, &'a [u8]), BadByte>
+    ensures { Finds (λ x. (item_of x.0, x.1.now)) result (item_at (lanes_of calls.now) bytes.now) }
 {
     let (kind, rest) = kind_at(calls, bytes)?;
-    behind_kind(alloc, kind, calls, rest)
+    behind_kind(kind, calls, rest)
 }
 
 /// Counts one more call of a lane.
@@ -327,15 +293,15 @@ fn raise(calls: &mut [u32; 32], lane: u16)
 }
 
 /// Counts the call that a record is, if it is one.
-fn count_call(calls: &mut [u32; 32], record: &TapeRecord)
-    requires { IsRecord record.now }
-    ensures { AgreeOnCalls (lanes_after (lanes_of calls.old) record.now) (lanes_of calls.new) }
+fn count_call(calls: &mut [u32; 32], seen: Seen<'_>)
+    requires { IsRecord (record_of seen) }
+    ensures { AgreeOnCalls (lanes_after (lanes_of calls.old) (record_of seen.entry)) (lanes_of calls.new) }
 {
-    match record {
-        TapeRecord::Call { lane, .. } => raise(calls, *lane),
-        TapeRecord::Leave { lane } => raise(calls, *lane),
-        TapeRecord::Packet { .. } => {}
-        TapeRecord::Meet { .. } => {}
+    match seen {
+        Seen::Call { lane, .. } => raise(calls, lane),
+        Seen::Leave { lane } => raise(calls, lane),
+        Seen::Packet { .. } => {}
+        Seen::Meet { .. } => {}
     }
 }
 
@@ -359,19 +325,78 @@ fn text_at<'a>(text: &[u8], bytes: &'a [u8]) -> Result<&'a [u8], BadByte>
     Ok(rest)
 }
 
-/// The records, up to the end record, behind which nothing stands.
-fn records_at(alloc: Global, limit: u32, bytes: &[u8]) -> Result<Vec<TapeRecord>, ReadFault>
+/// These bytes, in memory of their own.
+fn kept(alloc: Global, bytes: &[u8]) -> Result<ByteList, AllocError>
+    ensures { IfOk result (λ kept. kept ≡ bytes.now) }
+{
+    Ok(ByteList::from_vec(Vec::from_slice(alloc, bytes)?))
+}
+
+/// A record with its message or packet in memory of its own.
+fn owned(alloc: Global, seen: Seen<'_>) -> Result<TapeRecord, AllocError>
+    ensures { IfOk result (λ x. x ≡ record_of seen.entry) }
+{
+    match seen {
+        Seen::Call {
+            lane,
+            method,
+            message,
+        } => {
+            let message = kept(alloc, message)?;
+            Ok(TapeRecord::Call {
+                lane,
+                method,
+                message,
+            })
+        }
+        Seen::Packet { lane, port, packet } => {
+            let packet = kept(alloc, packet)?;
+            Ok(TapeRecord::Packet { lane, port, packet })
+        }
+        Seen::Leave { lane } => Ok(TapeRecord::Leave { lane }),
+        Seen::Meet {
+            lane,
+            controller,
+            call,
+        } => Ok(TapeRecord::Meet {
+            lane,
+            controller,
+            call,
+        }),
+    }
+}
+
+/// One more record behind those that are kept, unless there was no memory for one of them.
+fn with_next(
+    alloc: Global,
+    records: Result<Vec<TapeRecord>, AllocError>,
+    seen: Seen<'_>,
+) -> Result<Vec<TapeRecord>, AllocError>
+    ensures { Grows (λ x. x.items) records result (record_of seen.entry) }
+{
+    let mut records = records?;
+    records.push(owned(alloc, seen)?)?;
+    Ok(records)
+}
+
+/// The records, up to the end record, behind which nothing stands. Where there is no memory to keep them, the rest
+/// is read all the same, so that no flaw is hidden.
+fn records_at(
+    alloc: Global,
+    limit: u32,
+    bytes: &[u8],
+) -> Result<Result<Vec<TapeRecord>, AllocError>, Flaw>
     ensures { GivesAll (λ x. x.items) result (records_at limit no_lanes bytes.now) }
 {
-    let mut records = Vec::new(alloc);
+    let mut records = Ok(Vec::new(alloc));
     let mut calls = [0; 32];
     let mut rest = bytes;
     for _ in 0..limit {
-        let (item, after) = item_at(alloc, &calls, rest)?;
+        let (item, after) = item_at(&calls, rest)?;
         match item {
-            Some(record) => {
-                count_call(&mut calls, &record);
-                records.push(record)?;
+            Some(seen) => {
+                count_call(&mut calls, seen);
+                records = with_next(alloc, records, seen);
             }
             None => {
                 nothing_in(after)?;
@@ -406,9 +431,13 @@ fn end_alone(rest: &[u8]) -> Result<(), Flaw>
     }
 }
 
-/// The records of the tape that the bytes are.
+/// The records of the tape that the bytes are, or that there was no memory to keep them.
 #[tactic(auto, unfolding(run_spec::specs::TapeReading::tape_at))]
-pub(crate) fn tape_at(alloc: Global, limit: u32, bytes: &[u8]) -> Result<Vec<TapeRecord>, ReadFault>
+pub(crate) fn tape_at(
+    alloc: Global,
+    limit: u32,
+    bytes: &[u8],
+) -> Result<Result<Vec<TapeRecord>, AllocError>, Flaw>
     ensures { GivesAll (λ x. x.items) result (tape_at limit bytes.now) }
 {
     let rest = text_at(b"P4TAPE1\n", bytes)?;

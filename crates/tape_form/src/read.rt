@@ -1,13 +1,13 @@
 // A tape from a source.
-ghost use Rattle.std.specs.Prelude.{◌≡◌, ◌≤◌, ℕ, List, IfOk, IfErr, OnOk, OnErr, IsErrOf, All, length};
+ghost use Rattle.std.specs.Prelude.{◌≡◌, ◌≤◌, ℕ, List, Ok, Err, IfOk, IfErr, OnOk, IsErrOf, All, length};
 ghost use Rattle.std.specs.List.{AllByRecursion};
 ghost use Rattle.run_spec.specs.Tape.{IsRecord, tape_bytes};
 ghost use Rattle.sw_edge.specs.Counts.{HasCause};
-ghost use Rattle.tape_form.specs.TapeRead.{InLimits, UnlessNoMemory, outcome, when_whole, when_short, when_bad, refusal, EndsWithin, EndsSo, EndsSoundly, IsTakenFrom, IsReadFrom, IsWholeTape, IsBadAt, IsTooLong, IsAnswerToTape};
+ghost use Rattle.tape_form.specs.TapeRead.{InLimits, outcome, kept_answer, when_short, when_bad, answer_of, IsDue, EndsWithin, EndsSo, EndsSoundly, IsTakenFrom, IsReadFrom, IsWholeTape, IsUnfinished, IsBadAt, IsTooLong, IsAnswerToTape};
 
 use crate::fault::{Ended, TapeFault};
 use crate::limits::{MAX_RECORDS, MAX_TAPE};
-use crate::parse::{ReadFault, tape_at};
+use crate::parse::{Flaw, tape_at};
 use list_types::List;
 use p4_types::tape::TapeRecord;
 use std::alloc::{AllocError, Global};
@@ -44,6 +44,7 @@ impl Tape {
         ensures bad { (place : ℕ) → IsErrOf result (TapeFault.Bad place) → IsBadAt (S.left source.old) (S.left source.new) place }
         ensures too_long { IsErrOf result TapeFault.TooLong → IsTooLong (S.left source.old) (S.left source.new) }
         ensures sound { OnOk result (S.faults source.new ≡ S.faults source.old) }
+        ensures no_memory { IsErrOf result TapeFault.NoMemory → IsUnfinished (S.left source.old) (S.left source.new) (S.faults source.old) (S.faults source.new) }
         ensures fault { HasCause (S.faults source.old) (S.faults source.new) (IsErrOf result TapeFault.Fault) }
         ensures complete { (records : List TapeRecord) → InLimits records → S.left source.old ≡ Some (tape_bytes records) → IsAnswerToTape records result }
     {
@@ -84,8 +85,7 @@ pub fn take_bytes<S: Source>(alloc: Global, source: &mut S) -> Result<(Vec<u8>, 
     ensures ended { IfOk result (λ x. EndsSo x.1 (S.left source.new) (S.faults source.old) (S.faults source.new)) }
     ensures soundly { IfOk result (λ x. EndsSoundly x.1 (S.left source.new) (S.faults source.old) (S.faults source.new)) }
     ensures within { IfOk result (λ x. EndsWithin x.1 x.0.items) }
-    ensures no_memory { IfErr result (λ _. (taken : List ℕ) × IsTakenFrom (S.left source.old) (S.left source.new) taken) }
-    ensures calm { OnErr result (S.faults source.new ≡ S.faults source.old) }
+    ensures no_memory { IfErr result (λ _. IsUnfinished (S.left source.old) (S.left source.new) (S.faults source.old) (S.faults source.new)) }
     ensures later { S.faults source.old ≤ S.faults source.new }
 {
     let mut bytes = Vec::new(alloc);
@@ -93,8 +93,10 @@ pub fn take_bytes<S: Source>(alloc: Global, source: &mut S) -> Result<(Vec<u8>, 
     let buffer = piece.as_mut_slice();
     while bytes.len() <= MAX_TAPE {
         let room = PIECE.min(MAX_TAPE + 1 - bytes.len());
+        // before the read, so that nothing that was read is lost
+        bytes.reserve(room)?;
         match source.read(&mut buffer[..room]) {
-            Got::Bytes(count) => bytes.extend_from_slice(&buffer[..count])?,
+            Got::Bytes(count) => bytes.extend_from_slice(&buffer[..count]).unwrap(),
             Got::End => return Ok((bytes, Ended::AtEnd)),
             Got::Failed => return Ok((bytes, Ended::AtFault)),
         }
@@ -102,13 +104,13 @@ pub fn take_bytes<S: Source>(alloc: Global, source: &mut S) -> Result<(Vec<u8>, 
     Ok((bytes, Ended::AtLimit))
 }
 
-/// The answer where the bytes are a tape.
-fn whole(records: Vec<TapeRecord>, ended: Ended) -> Result<Tape, TapeFault>
-    requires { ended ≡ Ended.AtEnd → InLimits records.items }
-    ensures { when_whole records.items ended ≡ result }
+/// The answer where the bytes are a tape, whose records are kept, unless there was no memory for them.
+fn whole(kept: Result<Vec<TapeRecord>, AllocError>, ended: Ended) -> Result<Tape, TapeFault>
+    requires { ended ≡ Ended.AtEnd → IfOk kept (λ records. InLimits records.items) }
+    ensures { kept_answer (λ records. records.items) ended kept ≡ result }
 {
     match ended {
-        Ended::AtEnd => Ok(Tape { records }),
+        Ended::AtEnd => Ok(Tape { records: kept? }),
         Ended::AtFault => Err(TapeFault::Fault),
         Ended::AtLimit => Err(TapeFault::TooLong),
     }
@@ -135,28 +137,30 @@ fn bad(place: usize, ended: Ended) -> Result<Tape, TapeFault>
     }
 }
 
-/// The answer where so many bytes were not read as a tape.
-fn refusal(taken: usize, ended: Ended, fault: ReadFault) -> Result<Tape, TapeFault>
-    requires { (left : ℕ) → fault ≡ ReadFault.Bad left → left ≤ taken }
-    ensures { refusal taken ended fault ≡ result }
+/// The answer to what so many bytes were read as, and to whether the records are kept.
+fn answer_of(
+    taken: usize,
+    ended: Ended,
+    read: Result<Result<Vec<TapeRecord>, AllocError>, Flaw>,
+) -> Result<Tape, TapeFault>
+    requires whole { ended ≡ Ended.AtEnd → IfOk read (λ kept. IfOk kept (λ records. InLimits records.items)) }
+    requires within { (left : ℕ) → IsErrOf read (Flaw.Bad left) → left ≤ taken }
+    ensures { answer_of (λ records. records.items) taken ended read ≡ result }
 {
-    match fault {
-        ReadFault::NoMemory => Err(TapeFault::NoMemory),
-        ReadFault::TooMany(_) => Err(TapeFault::TooLong),
-        ReadFault::Bad(0) => short(taken, ended),
-        ReadFault::Bad(left) => bad(taken - left, ended),
+    match read {
+        Ok(kept) => whole(kept, ended),
+        Err(Flaw::TooMany(_)) => Err(TapeFault::TooLong),
+        Err(Flaw::Bad(0)) => short(taken, ended),
+        Err(Flaw::Bad(left)) => bad(taken - left, ended),
     }
 }
 
 /// The tape that the bytes are, or the answer to them.
 fn judge(alloc: Global, bytes: &[u8], ended: Ended) -> Result<Tape, TapeFault>
     requires { EndsWithin ended bytes.now }
-    ensures { UnlessNoMemory result (outcome bytes.now ended ≡ result) }
+    ensures { IsDue result (outcome bytes.now ended) }
 {
-    match tape_at(alloc, MAX_RECORDS, bytes) {
-        Ok(records) => whole(records, ended),
-        Err(fault) => refusal(bytes.len(), ended, fault),
-    }
+    answer_of(bytes.len(), ended, tape_at(alloc, MAX_RECORDS, bytes))
 }
 
 /// The tape that the source gives, or the answer to what it gives.

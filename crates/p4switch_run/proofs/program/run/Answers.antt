@@ -10,6 +10,12 @@ returns-clause-report g c =
     let words = map (λ word. word.now) c.args.words.now in
     λ e. endings.reports _ c.status_of-status.result words old new refl c.status_of-status.ensures.ends (sym c.number.ensures ∙ e)
 
+pub returns-clause-no_memory : goal.returns-clause-no_memory
+returns-clause-no_memory g c =
+    let old = streams (g.S.Source.left c.args.tape.now) (g.O.Sink.sent c.args.out.now) (g.S.Source.faults c.args.tape.now) (g.O.Sink.faults c.args.out.now) in
+    let new = streams (g.S.Source.left c.status_of-status.new.tape) (g.O.Sink.sent c.status_of-status.new.out) (g.S.Source.faults c.status_of-status.new.tape) (g.O.Sink.faults c.status_of-status.new.out) in
+    λ e. endings.no_memory _ c.status_of-status.result old new c.status_of-status.ensures.ends (sym c.number.ensures ∙ e)
+
 pub returns-clause-read_fault : goal.returns-clause-read_fault
 returns-clause-read_fault g c =
     let old = streams (g.S.Source.left c.args.tape.now) (g.O.Sink.sent c.args.out.now) (g.S.Source.faults c.args.tape.now) (g.O.Sink.faults c.args.out.now) in
@@ -73,11 +79,11 @@ returns-clause-nothing g c =
     λ x y z. endings.nothing _ c.status_of-status.result old new c.status_of-status.ensures.ends (λ e. x (c.number.ensures ∙ e)) (λ e. y (c.number.ensures ∙ e)) (λ e. z (c.number.ensures ∙ e))
 
 pub returns-clause-complete : goal.returns-clause-complete
-returns-clause-complete g c start command holds reads writes =
+returns-clause-complete g c mode start command holds reads writes =
     let old = streams (g.S.Source.left c.args.tape.now) (g.O.Sink.sent c.args.out.now) (g.S.Source.faults c.args.tape.now) (g.O.Sink.faults c.args.out.now) in
     let new = streams (g.S.Source.left c.status_of-status.new.tape) (g.O.Sink.sent c.status_of-status.new.out) (g.S.Source.faults c.status_of-status.new.tape) (g.O.Sink.faults c.status_of-status.new.out) in
     let words = map (λ word. word.now) c.args.words.now in
-    rw c.number.ensures (endings.complete _ c.status_of-status.result words old new refl c.status_of-status.ensures.ends start command holds reads writes)
+    rw c.number.ensures (endings.complete _ c.status_of-status.result words old new refl c.status_of-status.ensures.ends mode start command holds reads writes)
 
 pub returns-clause-judged : goal.returns-clause-judged
 returns-clause-judged g c command holds reads writes =

@@ -1,11 +1,11 @@
-use Rattle.tape_form.proofs.Judging.{whole_within, flaw_within, refused}
+use Rattle.tape_form.proofs.Judging.{kept_within, flaw_within, is_due}
 use Rattle.tape_form.proofs.read.judge.Goals as goal
 
-pub whole-requires : goal.whole-requires
-whole-requires c = whole_within c.args.ended c.args.bytes.now c.in-Ok.records.items c.requires c.in-Ok.ensures
+pub answer_of-requires : goal.answer_of-requires
+answer_of-requires c = record {
+  whole = kept_within (λ x. x.items) c.args.ended c.args.bytes.now c.tape_at.result c.requires c.tape_at.ensures;
+  within = flaw_within (λ x. x.items) c.args.bytes.now c.tape_at.result c.tape_at.ensures;
+}
 
-pub refusal-requires : goal.refusal-requires
-refusal-requires c = flaw_within c.args.bytes.now c.in-Err.fault c.in-Err.ensures
-
-pub returns-in-Err : goal.returns-in-Err
-returns-in-Err c = refused c.args.bytes.now c.args.ended c.in-Err.fault _ c.in-Err.ensures c.refusal.ensures
+pub returns : goal.returns
+returns c = is_due (λ x. x.items) c.args.bytes.now c.args.ended c.tape_at.result _ c.tape_at.ensures c.answer_of.ensures

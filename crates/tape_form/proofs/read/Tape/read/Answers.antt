@@ -1,5 +1,5 @@
 use Rattle.tape_form.proofs.Complete.{complete}
-use Rattle.tape_form.proofs.Judging.{whole_tape, whole_sound, if_bad, if_too_long, if_fault}
+use Rattle.tape_form.proofs.Judging.{whole_tape, whole_sound, if_bad, if_too_long, if_no_memory, if_fault}
 use Rattle.tape_form.proofs.read.Tape.read.Goals as goal
 
 pub returns-clause-tape : goal.returns-clause-tape
@@ -13,6 +13,9 @@ returns-clause-bad g c = if_bad _ _ _ _ c.read_from.result c.read_from.ensures.e
 
 pub returns-clause-too_long : goal.returns-clause-too_long
 returns-clause-too_long g c = if_too_long _ _ _ _ c.read_from.result c.read_from.ensures.exact
+
+pub returns-clause-no_memory : goal.returns-clause-no_memory
+returns-clause-no_memory g c = if_no_memory _ _ _ _ c.read_from.result c.read_from.ensures.exact
 
 pub returns-clause-fault : goal.returns-clause-fault
 returns-clause-fault g c = record { later = c.read_from.ensures.later; cause = if_fault _ _ _ _ c.read_from.result c.read_from.ensures.exact }

@@ -1,0 +1,33 @@
+use Rattle.std.proofs.Common.{◌∙◌, List, length, ap, refl, subst, sym}
+use Rattle.std.proofs.lemmas.List.{length-replicate}
+use Rattle.std.specs.List.{AllByRecursion}
+use Rattle.pub_snap.specs.Snapshots.{Sight}
+use Rattle.replay_run.proofs.Lanes.{each_alike}
+use Rattle.replay_run.proofs.parts.open_parts.Goals as goal
+use Rattle.replay_run.specs.Opening.{SeesRun}
+
+pub returns : goal.returns
+returns g c =
+    let opened = c.in_ok-publisher.ensures in
+    let told = c.in_ok-publisher.publisher.told in
+    let viewer : Sight = record { told = told; refusals = 0 } in
+    record {
+      parts = record {
+        start_is = opened.start;
+        nothing = opened.events;
+        none_pending = opened.pending;
+        control_is = c.in-Ok.ensures.control;
+        no_step = c.in-Ok.ensures.steps;
+        no_call = c.in-Ok.ensures.calls;
+        viewers =
+            subst
+            (λ (l : List Sight). AllByRecursion (SeesRun told.list c.args.start.now) l)
+            (sym opened.viewers)
+            (each_alike (SeesRun told.list c.args.start.now) 48 viewer (record { list_is = refl; start_is = opened.start }));
+        many = ap (λ (l : List Sight). length l) opened.viewers ∙ length-replicate 48 viewer;
+        slots = c.in_ok-bank.ensures.0;
+        rest_is = c.in_ok-bank.ensures.1;
+        journal_is = c.in_ok-table.ensures.journal;
+        lanes_are = c.in_ok-table.ensures.lanes;
+      };
+    }
