@@ -10,7 +10,7 @@ use crate::placing::{is_misplaced, judged};
 use crate::settings::{grant_connection, grant_stream, ping, settings};
 use crate::state::{HeaderBlock, State};
 use crate::unread::Unread;
-use h2_frames::{Frame, H2Code, Head, read_payload};
+use h2_frames::{Frame, H2Code, Head, ends_headers, read_payload};
 use h2_streams::Outgoing;
 use list_types::{ByteList, NoMemory, Refusal};
 use std::alloc::Global;
@@ -138,7 +138,24 @@ fn act(alloc: Global, conn: &mut State, count: u32, frame: Frame) -> Result<Give
     }
 }
 
-/// What a frame of this head and payload does.
+// CONTINUATION, whose payload goes to the end of the header block.
+#[tactic(auto, using(crate::proofs::HeaderSteps::continuing))]
+fn take_continuation(
+    alloc: Global,
+    conn: &mut State,
+    head: &Head,
+    payload: &[u8],
+) -> Result<Given, Refusal<H2Code>>
+    requires { head.now.kind ≡ 9 }
+    ensures { Takes result conn.old conn.new (frame_taken head.now payload.now conn.old) }
+{
+    if is_misplaced(head, conn) || head.stream == 0 {
+        return Err(Refusal::For(H2Code::ProtocolError));
+    }
+    continuation(alloc, conn, ends_headers(head), payload)
+}
+
+/// What a frame of this head and payload does. The payload is copied at most once.
 #[tactic(auto, unfolding(crate::specs::Frames::frame_taken))]
 pub(crate) fn take_frame(
     alloc: Global,
@@ -149,6 +166,9 @@ pub(crate) fn take_frame(
     requires { length payload.now ≡ head.now.length }
     ensures { Takes result conn.old conn.new (frame_taken head.now payload.now conn.old) }
 {
+    if head.kind == 9 {
+        return take_continuation(alloc, conn, head, payload);
+    }
     let misplaced = is_misplaced(head, conn);
     let frame = judged(misplaced, read_payload(alloc, head, payload))?;
     act(alloc, conn, head.length, frame)

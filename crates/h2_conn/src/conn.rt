@@ -123,8 +123,9 @@ impl Conn {
     /// The next bytes of the peer: the events of all bytes so far less those given before, however
     /// the bytes are cut, and the code of the first breach of a connection rule. After a breach the
     /// code is answered again, and no event; GOAWAY is the last of what is to be sent. A frame that is
-    /// whole in a piece is read where it stands, and one that comes in pieces is gathered. So the payload
-    /// of DATA is copied once: into its event, or where it is gathered, which then becomes the event.
+    /// whole in a piece is read where it stands, and one that comes in pieces is gathered. So a payload
+    /// is copied once: into its event or the header block, or where it is gathered, which then becomes
+    /// the event or the block. CONTINUATION that comes in pieces is copied once more, behind the block.
     pub fn feed(
         &mut self,
         alloc: Global,

@@ -4,8 +4,9 @@ ghost use Rattle.h2_conn.specs.Frames.{fresh_state};
 
 use crate::decoder::BlockDecoder;
 use crate::unread::Unread;
+use h2_frames::Fragment;
 use h2_streams::{Outgoing, Streams};
-use list_types::{ByteList, List};
+use list_types::List;
 use std::alloc::Global;
 
 /// A header block so far.
@@ -13,7 +14,7 @@ use std::alloc::Global;
 pub struct HeaderBlock {
     pub stream: u32,
     pub end_stream: bool,
-    pub fragment: ByteList,
+    pub fragment: Fragment,
 }
 
 /// Odd numbers that the peer skipped, from the first to the last.

@@ -132,7 +132,7 @@ impl Unread {
         Ok(list)
     }
 
-    /// The frame of this head, which is whole. Data is not copied.
+    /// The frame of this head, which is whole. Its payload is not copied.
     pub fn into_frame(self, alloc: Global, head: &Head) -> Result<Frame, FrameError>
         requires first { head.now ≡ head_at (take 9 self) }
         requires whole { 9 + head.now.length ≤ length self }

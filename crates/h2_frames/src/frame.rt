@@ -1,4 +1,5 @@
 //! The frames of a connection, by their kinds.
+use crate::fragment::Fragment;
 use list_types::{ByteList, List};
 
 /// The priority of a stream (RFC 9113, section 6.3).
@@ -46,7 +47,7 @@ pub enum Frame {
         end_stream: bool,
         end_headers: bool,
         priority: Option<StreamPriority>,
-        field_block_fragment: ByteList,
+        field_block_fragment: Fragment,
     },
     Priority {
         stream: u32,
@@ -64,7 +65,7 @@ pub enum Frame {
         stream: u32,
         end_headers: bool,
         promised_stream: u32,
-        field_block_fragment: ByteList,
+        field_block_fragment: Fragment,
     },
     Ping {
         ack: bool,
@@ -74,7 +75,7 @@ pub enum Frame {
     GoAway {
         last_stream: u32,
         error_code: u32,
-        debug_data: ByteList,
+        debug_data: Fragment,
     },
     WindowUpdate {
         stream: u32,
@@ -84,7 +85,7 @@ pub enum Frame {
     Continuation {
         stream: u32,
         end_headers: bool,
-        field_block_fragment: ByteList,
+        field_block_fragment: Fragment,
     },
     /// A frame of a kind above 9.
     Unknown {

@@ -2,6 +2,7 @@
 #![tactic(auto)]
 
 mod codes;
+mod fragment;
 mod frame;
 mod head;
 pub mod laws;
@@ -9,9 +10,10 @@ mod reading;
 mod writing;
 
 pub use codes::{FrameError, H2Code};
+pub use fragment::Fragment;
 pub use frame::{Frame, Setting, StreamPriority};
 pub use head::{Head, check_head, read_head};
-pub use reading::{is_padded_data, read_gathered, read_padded_data, read_payload};
+pub use reading::{ends_headers, is_padded_data, read_gathered, read_padded_data, read_payload};
 pub use writing::{
     write_continuation, write_data, write_frame, write_goaway, write_headers, write_rst_stream,
     write_window_update,

@@ -1,12 +1,13 @@
 //! Reading the payload of a frame by its head.
-ghost use Rattle.std.specs.Prelude.{◌≡◌, ◌+◌, ◌*◌, ◌/◌, ◌%◌, ◌^◌, ◌<◌, ◌≤◌, ◌∷◌, length, true, false, Ok, IfOk};
+ghost use Rattle.std.specs.Prelude.{◌≡◌, ◌+◌, ◌*◌, ◌/◌, ◌%◌, ◌^◌, ◌<◌, ◌≤◌, ◌∷◌, length, take, drop, if◌then◌else◌, true, false, Ok, IfOk};
 ghost use Rattle.std.specs.List.{list_any};
 ghost use Rattle.h2_frames.specs.Reading.{Gives, GivesExactly, has, number_at, low_31_at, unpadded, priority_at, is_padded_data, setting_at, settings_in, unknown_at, breaks_protocol, breaks_flow_control, checked, data_at, headers_at, priority_frame_at, rst_stream_at, settings_at, push_promise_at, ping_at, goaway_at, window_update_at, continuation_at, frame_at};
-ghost use Rattle.h2_frames.specs.Codes.{padded_flag};
+ghost use Rattle.h2_frames.specs.Codes.{padded_flag, end_headers_flag};
 ghost use Rattle.h2_frames.specs.Layout.{payload_of};
 ghost use Rattle.h2_frames.specs.Laws.{NumbersFit};
 
 use crate::codes::{FrameError, H2Code};
+use crate::fragment::Fragment;
 use crate::frame::{Frame, Setting, StreamPriority};
 use crate::head::Head;
 use list_types::{ByteList, List};
@@ -60,6 +61,8 @@ fn unpadded(bytes: &[u8], flags: u8, fixed: usize) -> Result<&[u8], H2Code>
     requires { fixed ≤ 8 }
     ensures exact { GivesExactly (λ x. x.now) result (unpadded fixed flags bytes.now) }
     ensures long { IfOk result (λ x. fixed ≤ length x.now) }
+    ensures place { IfOk result (λ x. x.now ≡ take (length x.now) (drop (if has flags padded_flag then 1 else 0) bytes.now)) }
+    ensures within { IfOk result (λ x. (if has flags padded_flag then 1 else 0) + length x.now ≤ length bytes.now) }
 {
     if !has(flags, PADDED) {
         if bytes.len() < fixed {
@@ -105,24 +108,45 @@ fn data(alloc: Global, head: &Head, bytes: &[u8]) -> Result<Frame, FrameError>
     })
 }
 
+// How many bytes tell how long the padding is.
+fn before_body(flags: u8) -> usize
+    ensures { result ≡ (if has flags padded_flag then 1 else 0) }
+{
+    if has(flags, PADDED) { 1 } else { 0 }
+}
+
+// A payload without its padding, which stays in its buffer.
+fn body(bytes: ByteList, flags: u8, fixed: usize) -> Result<Fragment, H2Code>
+    requires { fixed ≤ 8 }
+    ensures exact { GivesExactly (λ x. x) result (unpadded fixed flags bytes) }
+    ensures long { IfOk result (λ x. fixed ≤ length x) }
+{
+    let count = unpadded(bytes.as_slice(), flags, fixed)?.len();
+    let mut body = Fragment::whole(bytes);
+    body.advance(before_body(flags));
+    Ok(body.truncated(count))
+}
+
 #[tactic(auto, unfolding(crate::specs::Reading::headers_at))]
-fn headers(alloc: Global, head: &Head, bytes: &[u8]) -> Result<Frame, FrameError>
-    ensures { Gives (λ x. x) result (headers_at head.now bytes.now) }
+fn headers(head: &Head, bytes: ByteList) -> Result<Frame, H2Code>
+    ensures { GivesExactly (λ x. x) result (headers_at head.now bytes) }
 {
     let has_priority = has(head.flags, PRIORITY);
-    let body = unpadded(bytes, head.flags, if has_priority { 5 } else { 0 })?;
+    let mut body = body(bytes, head.flags, if has_priority { 5 } else { 0 })?;
     if head.stream == 0 {
-        return Err(PROTOCOL);
+        return Err(H2Code::ProtocolError);
     }
     let end_stream = has(head.flags, END_STREAM);
     let end_headers = has(head.flags, END_HEADERS);
     if has_priority {
+        let priority = priority_at(body.as_slice());
+        body.advance(5);
         return Ok(Frame::Headers {
             stream: head.stream,
             end_stream,
             end_headers,
-            priority: Some(priority_at(body)),
-            field_block_fragment: copied(alloc, &body[5..])?,
+            priority: Some(priority),
+            field_block_fragment: body,
         });
     }
     Ok(Frame::Headers {
@@ -130,7 +154,7 @@ fn headers(alloc: Global, head: &Head, bytes: &[u8]) -> Result<Frame, FrameError
         end_stream,
         end_headers,
         priority: None,
-        field_block_fragment: copied(alloc, body)?,
+        field_block_fragment: body,
     })
 }
 
@@ -246,18 +270,20 @@ fn settings(alloc: Global, head: &Head, bytes: &[u8]) -> Result<Frame, FrameErro
 }
 
 #[tactic(auto, unfolding(crate::specs::Reading::push_promise_at))]
-fn push_promise(alloc: Global, head: &Head, bytes: &[u8]) -> Result<Frame, FrameError>
-    ensures { Gives (λ x. x) result (push_promise_at head.now bytes.now) }
+fn push_promise(head: &Head, bytes: ByteList) -> Result<Frame, H2Code>
+    ensures { GivesExactly (λ x. x) result (push_promise_at head.now bytes) }
 {
-    let body = unpadded(bytes, head.flags, 4)?;
+    let mut body = body(bytes, head.flags, 4)?;
     if head.stream == 0 {
-        return Err(PROTOCOL);
+        return Err(H2Code::ProtocolError);
     }
+    let promised_stream = low_31_at(body.as_slice(), 0);
+    body.advance(4);
     Ok(Frame::PushPromise {
         stream: head.stream,
         end_headers: has(head.flags, END_HEADERS),
-        promised_stream: low_31_at(body, 0),
-        field_block_fragment: copied(alloc, &body[4..])?,
+        promised_stream,
+        field_block_fragment: body,
     })
 }
 
@@ -280,19 +306,23 @@ fn ping(head: &Head, bytes: &[u8]) -> Result<Frame, H2Code>
 }
 
 #[tactic(auto, unfolding(crate::specs::Reading::goaway_at))]
-fn goaway(alloc: Global, head: &Head, bytes: &[u8]) -> Result<Frame, FrameError>
-    ensures { Gives (λ x. x) result (goaway_at head.now bytes.now) }
+fn goaway(head: &Head, bytes: ByteList) -> Result<Frame, H2Code>
+    ensures { GivesExactly (λ x. x) result (goaway_at head.now bytes) }
 {
     if bytes.len() < 8 {
-        return Err(SIZE);
+        return Err(H2Code::FrameSizeError);
     }
     if head.stream != 0 {
-        return Err(PROTOCOL);
+        return Err(H2Code::ProtocolError);
     }
+    let mut behind = Fragment::whole(bytes);
+    let last_stream = low_31_at(behind.as_slice(), 0);
+    let error_code = number_at(behind.as_slice(), 4);
+    behind.advance(8);
     Ok(Frame::GoAway {
-        last_stream: low_31_at(bytes, 0),
-        error_code: number_at(bytes, 4),
-        debug_data: copied(alloc, &bytes[8..])?,
+        last_stream,
+        error_code,
+        debug_data: behind,
     })
 }
 
@@ -314,28 +344,28 @@ fn window_update(head: &Head, bytes: &[u8]) -> Result<Frame, H2Code>
 }
 
 #[tactic(auto, unfolding(crate::specs::Reading::continuation_at))]
-fn continuation(alloc: Global, head: &Head, bytes: &[u8]) -> Result<Frame, FrameError>
-    ensures { Gives (λ x. x) result (continuation_at head.now bytes.now) }
+fn continuation(head: &Head, bytes: ByteList) -> Result<Frame, H2Code>
+    ensures { GivesExactly (λ x. x) result (continuation_at head.now bytes) }
 {
     if head.stream == 0 {
-        return Err(PROTOCOL);
+        return Err(H2Code::ProtocolError);
     }
     Ok(Frame::Continuation {
         stream: head.stream,
         end_headers: has(head.flags, END_HEADERS),
-        field_block_fragment: copied(alloc, bytes)?,
+        field_block_fragment: Fragment::whole(bytes),
     })
 }
 
-fn unknown(alloc: Global, head: &Head, bytes: &[u8]) -> Result<Frame, FrameError>
-    ensures { Gives (λ x. x) result (Ok (unknown_at head.now bytes.now)) }
+fn unknown(head: &Head, bytes: ByteList) -> Frame
+    ensures { result ≡ unknown_at head.now bytes }
 {
-    Ok(Frame::Unknown {
+    Frame::Unknown {
         kind: head.kind,
         flags: head.flags,
         stream: head.stream,
-        payload: copied(alloc, bytes)?,
-    })
+        payload: bytes,
+    }
 }
 
 #[tactic(auto, unfolding(crate::specs::Reading::frame_at))]
@@ -344,16 +374,16 @@ fn frame(alloc: Global, head: &Head, bytes: &[u8]) -> Result<Frame, FrameError>
 {
     match head.kind {
         0 => data(alloc, head, bytes),
-        1 => headers(alloc, head, bytes),
+        1 => Ok(headers(head, copied(alloc, bytes)?)?),
         2 => Ok(priority(head, bytes)?),
         3 => Ok(rst_stream(head, bytes)?),
         4 => settings(alloc, head, bytes),
-        5 => push_promise(alloc, head, bytes),
+        5 => Ok(push_promise(head, copied(alloc, bytes)?)?),
         6 => Ok(ping(head, bytes)?),
-        7 => goaway(alloc, head, bytes),
+        7 => Ok(goaway(head, copied(alloc, bytes)?)?),
         8 => Ok(window_update(head, bytes)?),
-        9 => continuation(alloc, head, bytes),
-        _ => unknown(alloc, head, bytes),
+        9 => Ok(continuation(head, copied(alloc, bytes)?)?),
+        _ => Ok(unknown(head, copied(alloc, bytes)?)),
     }
 }
 
@@ -386,16 +416,29 @@ fn gathered_data(head: &Head, bytes: ByteList) -> Result<Frame, H2Code>
     })
 }
 
-/// The same of a payload that its caller gives away. DATA without padding is not copied.
+/// The same of a payload that its caller gives away. It is not copied, but for DATA with padding, which `read_padded_data`
+/// takes in two parts, and for the numbers of SETTINGS.
 #[tactic(auto, unfolding(crate::specs::Reading::frame_at))]
 pub fn read_gathered(alloc: Global, head: &Head, bytes: ByteList) -> Result<Frame, FrameError>
     requires whole { length bytes ≡ head.now.length }
     ensures { Gives (λ x. x) result (frame_at head.now bytes) }
 {
-    if head.kind == 0 && !has(head.flags, PADDED) {
-        return Ok(gathered_data(head, bytes)?);
+    match head.kind {
+        0 if !has(head.flags, PADDED) => Ok(gathered_data(head, bytes)?),
+        1 => Ok(headers(head, bytes)?),
+        5 => Ok(push_promise(head, bytes)?),
+        7 => Ok(goaway(head, bytes)?),
+        9 => Ok(continuation(head, bytes)?),
+        0 | 2 | 3 | 4 | 6 | 8 => frame(alloc, head, bytes.as_slice()),
+        _ => Ok(unknown(head, bytes)),
     }
-    frame(alloc, head, bytes.as_slice())
+}
+
+/// A header block ends with the frame of this head, if it is of HEADERS or CONTINUATION.
+pub fn ends_headers(head: &Head) -> bool
+    ensures { result ≡ has head.now.flags end_headers_flag }
+{
+    has(head.flags, END_HEADERS)
 }
 
 /// The head is of DATA with padding.
