@@ -61,8 +61,8 @@ impl<T: Drop> Mail<T> {
         })
     }
 
-    /// How often memory was missing for a sample, a digest list, or what `count_unstored` was told of: so many calls of
-    /// `deliver_sample` and `tick` said so.
+    /// How often memory was missing for a sample, a digest list, or what `count_unstored` was told of: `deliver_sample` and `tick`
+    /// say so each time, and `next` does not.
     pub fn unstored(&self) -> u64
         ensures { result ≡ self.now.unstored }
     {

@@ -65,8 +65,8 @@ pub record Nothing (old new : Streams) (cause : Type 0) : Type 0 where
   pub sound_sink : new.write_faults ≡ old.write_faults
   pub «because» : cause
 
--- There was no memory to read the tape, or to run one that was read whole. It hides no fault of the source, no bad byte and no
--- limit, and the source has not failed.
+-- There was no memory to read the tape, or to run one that was read whole. It hides no fault of the source and no byte too many;
+-- where the taking broke off, a bad byte or a record too many may stand among those that were taken.
 abbrev pub LacksMemory : Streams → Streams → Type 0
 LacksMemory old new = ReadWith faults.NoMemory old new ⊎ ((records : List TapeRecord) × IsWholeTape old.left new.left records × (new.read_faults ≡ old.read_faults))
 

@@ -112,7 +112,7 @@ pub record BreaksOff (taken : List ℕ) (before now : ℕ) : Type 0 where
   pub within : length taken ≤ MAX_TAPE
 
 -- Want of memory comes where the taking breaks off, or in the place of the records of a whole tape: it hides no fault of the
--- source, no bad byte and no limit.
+-- source and no byte too many, and in the place of records no bad byte and no record too many.
 abbrev pub WantsMemory : List ℕ → Option (List ℕ) → ℕ → ℕ → Type 0
 WantsMemory taken new before now = BreaksOff taken before now ⊎ ((records : List TapeRecord) × IsOutcome (Ok records) taken new before now)
 
