@@ -7,9 +7,10 @@ use Rattle.counter_bank.specs.Account.{Account, BankId}
 use Rattle.ctl_lock.specs.Calls.{journal_of, made_of}
 use Rattle.ctl_lock.specs.Locked.{IsWhole}
 use Rattle.ctl_lock.specs.Passing.{Follows, IsOwn, IsPass, RunsOut, entering, least_of}
-use Rattle.ctl_lock.specs.Reading.{AreSums, IsReading, Looks, NoMore, Turn, behind_packet, noted_by}
+use Rattle.ctl_lock.specs.Reading.{IsReading, Looks, Turn, behind_packet}
+use Rattle.snap_worker.specs.Sums.{AreSums, NoMore, noted_by}
 use Rattle.ctl_lock.specs.declared.signed.Signed.{Signed}
-use Rattle.ctl_lock.proofs.Noting.{counts_noted, none_more, no_more_as}
+use Rattle.snap_worker.proofs.Noting.{counts_noted, none_more, no_more_as}
 use Rattle.ctl_lock.proofs.Turning.{reading_more}
 use Rattle.event_log.specs.Lists.{ListName}
 use Rattle.lane_table.specs.Lanes.{Lane}
@@ -61,7 +62,7 @@ looked_keeps before after looks = record {
   who = ap (λ (w : Work). w.who) looks.others;
   told = subst (λ (b : Beginning). Begins before.told b) (sym (ap (λ (w : Work). w.told) looks.others)) (begins_self before.told);
   records = ap (λ (w : Work). w.records) looks.others;
-  added = looks.added;
+  added = looks.seat.added;
 }
 
 looked_own : (list : ListName) (start : Start) (bank : BankId) (who : Who) (before after : Work) → Looks before after → IsOwn list start bank who before → IsOwn list start bank who after
@@ -69,8 +70,8 @@ looked_own list start bank who before after looks own = record {
   who_is = ap (λ (w : Work). w.who) looks.others ∙ own.who_is;
   list_is = ap (λ (w : Work). w.told.list) looks.others ∙ own.list_is;
   start_is = ap (λ (w : Work). w.told.start) looks.others ∙ own.start_is;
-  bank_is = looks.bank ∙ own.bank_is;
-  one_part = looks.parts ∙ own.one_part;
+  bank_is = looks.seat.bank ∙ own.bank_is;
+  one_part = looks.seat.parts ∙ own.one_part;
 }
 
 -- ---- With one call more
@@ -95,7 +96,7 @@ quiet list start bank lane calls todo made work seen signed h looks sums none =
     let turn : Turn = record { signed = signed; sums = noted_by seen.seat; packet = None } in
     let packets : beside (entering start (made ++ signed ∷ [])) seen.records ≡ beside arrivals work.records ++ [] =
     ap (λ (a : List Arrival). beside a seen.records) same ∙ ap (λ (w : Work). beside arrivals w.records) looks.others ∙ sym (append-nil (beside arrivals work.records)) in
-    let read = reading_more made (beside arrivals work.records) (noted_by work.seat) turn h.reading (sym (ap is_some none)) looks.more sums (noted_by seen.seat) (none_more (noted_by seen.seat)) in
+    let read = reading_more made (beside arrivals work.records) (noted_by work.seat) turn h.reading (sym (ap is_some none)) looks.seat.more sums (noted_by seen.seat) (none_more (noted_by seen.seat)) in
     record {
       own = looked_own list start bank (Controller lane) work seen looks h.own;
       work_is = subst (λ (l : List ℕ). IsWork (entering start (made ++ signed ∷ [])) l seen) (sym least) (subst (λ (a : List Arrival). IsWork a (least_of made) seen) (sym same) stays);
@@ -134,7 +135,7 @@ busy list start bank lane calls todo made work seen done signed told packet h lo
     let known : NoMore (behind_packet (noted_by seen.seat) (Some carried)) (noted_by done.seat) =
     no_more_as (behind_packet (noted_by seen.seat) (Some carried)) (behind_packet (noted_by seen.seat) (Some carried)) (noted_by done.seat) (none_more (behind_packet (noted_by seen.seat) (Some carried)))
     (λ slot. ap (λ (a : Account). noted_by a slot) ran.counted ∙ counts_noted (length packet) r.hits seen.seat slot) in
-    let read = reading_more made (beside arrivals work.records) (noted_by work.seat) turn h.reading (sym (ap is_some some)) looks.more sums (noted_by done.seat) known in
+    let read = reading_more made (beside arrivals work.records) (noted_by work.seat) turn h.reading (sym (ap is_some some)) looks.seat.more sums (noted_by done.seat) known in
     record {
       own = record {
         who_is = ran.who ∙ own.who_is;

@@ -3,9 +3,10 @@ use Rattle.std.proofs.Common.{List, [], ◌∷◌, ◌++◌, ap, ◌∙◌}
 use Rattle.std.specs.List.{filter_map}
 use Rattle.std.proofs.lemmas.List.{map-append}
 use Rattle.std.proofs.lemmas.List.Elements.{filter_map-append}
-use Rattle.ctl_lock.specs.Reading.{AreSums, HasOwnPacket, IsReading, NoMore, Rising, Turn, behind_packet}
+use Rattle.ctl_lock.specs.Reading.{HasOwnPacket, IsReading, Rising, Turn, behind_packet}
+use Rattle.snap_worker.specs.Sums.{AreSums, NoMore}
 use Rattle.ctl_lock.specs.declared.signed.Signed.{Signed}
-use Rattle.ctl_lock.proofs.Noting.{no_more_trans}
+use Rattle.snap_worker.proofs.Noting.{no_more_trans}
 use Rattle.plane_spec.proofs.Lists.{All-snoc}
 use Rattle.switch_spec.specs.Counts.{Figures, Carried, no_figures}
 

@@ -1,17 +1,8 @@
 -- Calls that were made.
-use Rattle.std.specs.Prelude.{ℕ, List, map, Option, Some, None, slice_get}
+use Rattle.std.specs.Prelude.{List, map}
 use Rattle.ctl_lock.specs.declared.signed.Signed.{Signed}
-use Rattle.switch_spec.specs.Counts.{Figures}
+use Rattle.snap_worker.specs.Sums.{figures_in}
 use Rattle.switch_spec.specs.History.{Made}
-
--- the figures of a slot, where there are some
-abbrev pub figures_or_none : Option (ℕ × ℕ) → ℕ × ℕ
-figures_or_none None = (0, 0)
-figures_or_none (Some figures) = figures
-
--- the figures of each slot, from slot 0 on; those of later slots are 0
-abbrev pub figures_in : List (ℕ × ℕ) → Figures
-figures_in list slot = figures_or_none (slice_get list slot)
 
 -- the call of a journal that was signed
 abbrev pub made_of : Signed → Made

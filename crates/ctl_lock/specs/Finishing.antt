@@ -1,10 +1,9 @@
 -- What is left of a run once all calls are made (this project's profile).
-use Rattle.std.specs.Prelude.{ℕ, zero, suc, ◌≤◌, List, [], ◌∷◌, ◌++◌, length}
+use Rattle.std.specs.Prelude.{ℕ, ◌≤◌, List, length}
 use Rattle.counter_bank.specs.Account.{Opened}
 use Rattle.ctl_core.specs.Core.{Core}
 use Rattle.ctl_lock.specs.Calls.{journal_of}
 use Rattle.ctl_lock.specs.declared.signed.Signed.{Signed}
-use Rattle.lane_table.specs.Lanes.{Lane, LaneTableId}
 use Rattle.lane_work.specs.Work.{steps_told}
 use Rattle.pub_snap.specs.Beginnings.{Beginning}
 use Rattle.switch_spec.specs.Carrying.{made_on, steps_through}
@@ -26,8 +25,3 @@ pub record Closing : Type 0 where
   pub journal : List Signed
   pub told : Beginning
   pub bank : Opened
-
--- the seats of so many lanes, none of which has made a call
-abbrev pub seats_from : LaneTableId → ℕ → List (Lane Signed)
-seats_from table zero = []
-seats_from table (suc more) = seats_from table more ++ (record { table = table; number = more; entries = [] }) ∷ []

@@ -5,7 +5,8 @@ use Rattle.ctl_lock.specs.declared.locked.Outcome.{Outcome}
 use Rattle.ctl_lock.specs.declared.signed.Signed.{Signed}
 use Rattle.ctl_lock.specs.Calls.{made_of}
 use Rattle.ctl_lock.specs.Passing.{Follows}
-use Rattle.ctl_lock.specs.Reading.{AreSums, Looks, noted_by}
+use Rattle.ctl_lock.specs.Reading.{Looks}
+use Rattle.snap_worker.specs.Sums.{AreSums, noted_by}
 use Rattle.event_log.specs.Lists.{ListName}
 use Rattle.lane_table.specs.Lanes.{Lane, Journal, LaneTableId, with_call}
 use Rattle.lane_work.specs.Work.{Work, steps_told}

@@ -3,7 +3,8 @@ use Rattle.std.specs.Prelude.{◌≡◌, ℕ, Bool, true, false, List, [], ◌�
 use Rattle.std.specs.List.{filter_map}
 use Rattle.counter_bank.specs.Account.{BankId}
 use Rattle.ctl_lock.specs.Calls.{journal_of}
-use Rattle.ctl_lock.specs.Reading.{IsReading, noted_by}
+use Rattle.ctl_lock.specs.Reading.{IsReading}
+use Rattle.snap_worker.specs.Sums.{noted_by}
 use Rattle.ctl_lock.specs.declared.desk.Asked.{Asked}
 use Rattle.ctl_lock.specs.declared.desk.Asked.TheVariants as asked
 use Rattle.ctl_lock.specs.declared.signed.Signed.{Signed}

@@ -1,36 +1,15 @@
 -- What the calls of a lane saw of the counters, beside what its own packets counted (this project's profile).
-use Rattle.std.specs.Prelude.{◌≡◌, ℕ, ◌<◌, ◌≤◌, ◌%◌, ◌^◌, List, [], ◌∷◌, length, map, Option, Some, None, is_some}
+use Rattle.std.specs.Prelude.{◌≡◌, List, [], ◌∷◌, map, Option, Some, None, is_some}
 use Rattle.std.specs.List.{filter_map, AllByRecursion}
-use Rattle.counter_bank.specs.Account.{Account}
-use Rattle.counter_bank.specs.Figures.{packets_of, bytes_of}
-use Rattle.ctl_lock.specs.Calls.{figures_in}
 use Rattle.ctl_lock.specs.declared.signed.Signed.{Signed}
 use Rattle.lane_work.specs.Work.{Work}
+use Rattle.snap_worker.specs.Sums.{AreSums, NoMore, SeatLooks}
 use Rattle.switch_spec.specs.Counts.{Figures, Carried, no_figures, counted}
-
--- figures as the words of counters keep them
-abbrev pub in_words : ℕ × ℕ → ℕ × ℕ
-in_words figures = (figures.0 % 2 ^ 64, figures.1 % 2 ^ 64)
-
--- at each slot the first figures are at most the second
-abbrev pub NoMore : Figures → Figures → Type 0
-NoMore g h = (slot : ℕ) → ((g slot).0 ≤ (h slot).0) × ((g slot).1 ≤ (h slot).1)
-
--- what a seat has noted, as figures of slots
-abbrev pub noted_by : Account → Figures
-noted_by seat slot = (packets_of seat.noted slot, bytes_of seat.noted slot)
-
--- figures that were loaded are these sums, as words keep them
-abbrev pub AreSums : List (ℕ × ℕ) → Figures → Type 0
-AreSums figures sums = (slot : ℕ) → slot < length figures → figures_in figures slot ≡ in_words (sums slot)
 
 -- The lane's seat looked at counters, and nothing else of its work changed.
 pub record Looks (before after : Work) : Type 0 where
   pub others : after ≡ record before { seat = after.seat }
-  pub bank : after.seat.bank ≡ before.seat.bank
-  pub parts : after.seat.parts ≡ before.seat.parts
-  pub added : after.seat.added ≡ before.seat.added
-  pub more : NoMore (noted_by before.seat) (noted_by after.seat)
+  pub seat : SeatLooks before.seat after.seat
 
 -- a call that was made, the sums behind the figures that it saw, and the packet that it made enter
 pub record Turn : Type 0 where

@@ -2,7 +2,8 @@
 ghost use Rattle.std.specs.Prelude.{◌≡◌, ◌<◌, ◌≤◌, IfOk, IfSome, OnOk, OnErr};
 ghost use Rattle.ctl_lock.specs.Locked.{HasSeen, IsWhole};
 ghost use Rattle.ctl_lock.specs.Passing.{IsAsked};
-ghost use Rattle.ctl_lock.specs.Reading.{Looks, noted_by};
+ghost use Rattle.ctl_lock.specs.Reading.{Looks};
+ghost use Rattle.snap_worker.specs.Sums.{noted_by};
 ghost use Rattle.plane_spec.specs.Entries.{slot_limit};
 
 use crate::call::read;
@@ -170,7 +171,7 @@ impl<J: Naming, R: Wait + Drop> TapeDesk<J, R> {
             );
         };
         let Ok(()) = self.call_whole(rt, lane, cpu, &mut seat, &mut work, call) else {
-            self.gave_up.store(true, Ordering::SeqCst);
+            self.give_up();
             let failed = true;
             return (
                 CallPass {
@@ -198,6 +199,11 @@ impl<J: Naming, R: Wait + Drop> TapeDesk<J, R> {
             },
             Asked::Made,
         )
+    }
+
+    /// Lets those who wait for a call wait no longer: a lane that found no memory will not make its calls.
+    pub fn give_up(&self) {
+        self.gave_up.store(true, Ordering::SeqCst);
     }
 
     // Whether a lane has made so many calls: then what is published, and a note of the journal.

@@ -4,27 +4,23 @@
 
 mod call;
 mod desk;
-mod figures;
 mod finish;
 mod line;
 mod loading;
 mod locked;
 mod met;
 mod naming;
-mod opening;
 mod pass;
 mod running;
 mod signed;
 
 pub use call::read;
 pub use desk::{Asked, TapeDesk};
-pub use figures::Loaded;
 pub use finish::ClosedDesk;
 pub use line::Line;
 pub use locked::{Locked, Outcome};
 pub use met::Met;
 pub use naming::Naming;
-pub use opening::open_lanes;
 pub use pass::CallPass;
 pub use running::run_at_last;
 pub use signed::Signed;

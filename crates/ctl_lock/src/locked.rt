@@ -1,7 +1,8 @@
 //! What stands behind the lock: the control of the switch, the published list, and the journal.
 ghost use Rattle.std.specs.Prelude.{◌≡◌, ◌<◌, ◌≤◌, ◌+◌, ◌^◌, [], length, replicate, drop, slice_index, set, IfOk, IfSome, IfNone, OnOk, OnErr, true, ℕ};
 ghost use Rattle.ctl_core.specs.Core.{Handled, raised};
-ghost use Rattle.ctl_lock.specs.Calls.{figures_in, journal_of};
+ghost use Rattle.ctl_lock.specs.Calls.{journal_of};
+ghost use Rattle.snap_worker.specs.Sums.{figures_in};
 ghost use Rattle.ctl_lock.specs.Locked.{IsRead, IsHandled, IsEntry, IsCalled, IsStanding, SeeAll, reads, seat_of};
 ghost use Rattle.lane_work.specs.Work.{steps_told};
 ghost use Rattle.plane_spec.specs.Entries.{slot_limit};
@@ -11,7 +12,6 @@ ghost use Rattle.switch_spec.specs.Answer.{called};
 ghost use Rattle.switch_spec.specs.Carrying.{made_on, steps_through};
 ghost use Rattle.switch_spec.specs.History.{is_unavailable};
 
-use crate::figures::Loaded;
 use crate::line::Line;
 use crate::naming::Naming;
 use crate::signed::Signed;
@@ -21,6 +21,7 @@ use list_types::{ByteList, NoMemory};
 use p4_types::calls::{Call, Reply};
 use p4_types::journal::Entry;
 use pub_snap::{Publisher, Told};
+use snap_worker::Loaded;
 use std::alloc::Global;
 use std::marker::Model;
 use std::sync::Wait;

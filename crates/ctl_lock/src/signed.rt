@@ -1,7 +1,7 @@
 //! Calls that were made.
-use crate::figures::Loaded;
 use lane_table::OfLane;
 use p4_types::journal::Entry;
+use snap_worker::Loaded;
 use switch_spec::calls::LaneCall;
 
 /// A call that was made, what counters had counted where it asked, and its entry in the journal.

@@ -5,7 +5,7 @@ use Rattle.std.proofs.lemmas.Bool.Decides.{nat_tests}
 use Rattle.std.specs.List.{find, list_any, position_or_len, position, insert}
 use Rattle.p4_types.specs.declared.messages.DigestConfig.{DigestConfig}
 use Rattle.digest_lists.specs.State.{DigestState, new_digest}
-use Rattle.digest_lists.specs.Fold.{change_first, inserted, is_set, with_config}
+use Rattle.digest_lists.specs.Fold.{change_first, inserted, is_set, with_config, has_room}
 
 same_place : (i n : ℕ) → Some n ≡ Some i → i ≡ n
 same_place i n e = cc
@@ -194,3 +194,15 @@ one_at_most false n l m e h = omega arith
 pub config_adds_one : (digests : List DigestState) (id : ℕ) (config : DigestConfig) → length (with_config digests id config) ≤ length digests + 1
 config_adds_one digests id config =
     omega (arith, one_at_most (is_set digests id) (length digests) _ _ (length_changed (of_id id) (λ d. record d { config = config }) digests) (length-inserted digests (new_digest id config)))
+
+below_limit : (n : ℕ) → ltb n 128 ≡ true → n < 128
+below_limit n h = grind (arith, nat_tests)
+
+room_kept : (b : Bool) (changed more : List DigestState) (n : ℕ) → (b || ltb n 128) ≡ true → n ≤ 128 → length changed ≡ n → length more ≡ suc n → length (cond b changed more) ≤ 128
+room_kept true changed more n room few same one = omega (arith, few, same)
+room_kept false changed more n room few same one = (let below = below_limit n room in omega (arith, below, one))
+
+-- what has room leaves at most 128 digests set
+pub room_left : (digests : List DigestState) (id : ℕ) (config : DigestConfig) → has_room digests id ≡ true → length digests ≤ 128 → length (with_config digests id config) ≤ 128
+room_left digests id config room few =
+    room_kept (is_set digests id) _ (inserted digests (new_digest id config)) (length digests) room few (length_changed _ _ digests) (length-inserted digests (new_digest id config))

@@ -57,6 +57,10 @@ rising_kept : (test : DigestState → Bool) (digests : List DigestState) → IsR
 rising_kept test [] rising = tt
 rising_kept test (d ∷ rest) rising = rising_kept_head d (test d) (filter test rest) (each_kept (λ other. d.id < other.id) test rest rising.0) (rising_kept test rest rising.1)
 
+-- some of the digests are as sound as all
+pub kept_sound : (test : DigestState → Bool) (digests : List DigestState) → IsSound digests → IsSound (filter test digests)
+kept_sound test digests h = record { rising = rising_kept test digests h.rising; few_wait = each_kept _ test digests h.few_wait }
+
 inserted_head : (P : DigestState → Type 0) (b : Bool) (d new : DigestState) (rest others : List DigestState) → P d → P new → Each P rest → Each P others → Each P (cond b (new ∷ d ∷ rest) (d ∷ others))
 inserted_head P true d new rest others p q all more = (q, (p, all))
 inserted_head P false d new rest others p q all more = (p, more)

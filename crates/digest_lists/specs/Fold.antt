@@ -1,8 +1,9 @@
 -- The digests that are set, by rising id, and what the calls do to them (this project's profile).
-use Rattle.std.specs.Prelude.{ℕ, ◌==◌, ◌≤◌, nat_lt, Bool, not, if◌then◌else◌, List, [], ◌∷◌, ◌++◌, length, filter, Option, Some, None}
+use Rattle.std.specs.Prelude.{ℕ, ◌==◌, ◌≤◌, nat_lt, Bool, ◌||◌, not, if◌then◌else◌, List, [], ◌∷◌, ◌++◌, length, filter, Option, Some, None}
 use Rattle.std.specs.List.{find, list_any, fold}
 use Rattle.std.specs.Option.{option_map, option_and_then, option_to_list}
 use Rattle.p4_types.specs.declared.messages.DigestConfig.{DigestConfig}
+use Rattle.p4_types.specs.declared.messages.DigestEntry.{DigestEntry}
 use Rattle.p4_types.specs.declared.messages.DigestList.{DigestList}
 use Rattle.p4_types.specs.declared.messages.P4Data.{P4Data}
 use Rattle.digest_lists.specs.State.{DigestState, new_digest}
@@ -35,6 +36,22 @@ set_digest digests id (Some config) = with_config digests id config
 abbrev pub HasRoom : List DigestState → ℕ → Option DigestConfig → Type 0
 HasRoom digests id None = Unit {0}
 HasRoom digests id (Some config) = length (with_config digests id config) ≤ 128
+
+-- an entry names a digest
+abbrev pub names : List DigestEntry → ℕ → Bool
+names entries id = list_any (λ entry. entry.digest_id == id) entries
+
+-- a digest is set, or there is room for one more
+abbrev pub has_room : List DigestState → ℕ → Bool
+has_room digests id = is_set digests id || nat_lt (length digests) 128
+
+-- an entry's digest has the entry's configuration, where there is room for it
+abbrev pub with_entry : List DigestState → DigestEntry → List DigestState
+with_entry digests entry = if has_room digests entry.digest_id then with_config digests entry.digest_id entry.config else digests
+
+-- the digests that entries name are set, with their configurations, and all that is kept of others is forgotten
+abbrev pub set_to : List DigestState → List DigestEntry → List DigestState
+set_to digests entries = fold with_entry (filter (λ digest. names entries digest.id) digests) entries
 
 -- a sample of a digest that is not set is passed over
 abbrev pub take_sample : List DigestState → ℕ → P4Data → ℕ → List DigestState

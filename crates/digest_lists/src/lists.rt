@@ -1,15 +1,15 @@
 //! The digests that are set.
 ghost use Rattle.std.specs.Prelude.{◌≡◌, ◌==◌, ◌<◌, ◌≤◌, [], not, length, filter, position, nat_lt, slice_get, vec_len, vec_capacity, Some, IfOk, OnOk, OnErr};
-ghost use Rattle.std.specs.List.{position_or_len};
+ghost use Rattle.std.specs.List.{fold, position_or_len};
 ghost use Rattle.std.specs.Option.{option_copied};
 ghost use Rattle.digest_lists.specs.State.{ids_of};
 ghost use Rattle.digest_lists.specs.Sending.{is_due};
 ghost use Rattle.digest_lists.specs.Laws.{IsSound};
-ghost use Rattle.digest_lists.specs.Fold.{HasRoom, inserted, with_config, set_digest, take_sample, sent_at_sample, acknowledge, send_due, sent_at_tick};
+ghost use Rattle.digest_lists.specs.Fold.{HasRoom, has_room, inserted, is_set, names, with_config, with_entry, set_digest, set_to, take_sample, sent_at_sample, acknowledge, send_due, sent_at_tick};
 
 use crate::digest::Digest;
 use list_types::NoMemory;
-use p4_types::messages::{DigestConfig, DigestList, P4Data};
+use p4_types::messages::{DigestConfig, DigestEntry, DigestList, P4Data};
 use std::alloc::Global;
 use std::marker::Model;
 
@@ -77,6 +77,27 @@ fn forget(digests: &mut Vec<Digest>, id: u32)
     digests.retain(|digest| digest.id() != id);
 }
 
+fn is_set(digests: &[Digest], id: u32) -> bool
+    ensures { result ≡ is_set digests.now id }
+{
+    digests.iter().any(|digest| digest.id() == id)
+}
+
+fn names(entries: &[DigestEntry], id: u32) -> bool
+    ensures { result ≡ names entries.now id }
+{
+    entries.iter().any(|entry| entry.digest_id == id)
+}
+
+// Forgets all that is kept of digests that no entry names.
+fn keep_named(digests: &mut Vec<Digest>, entries: &[DigestEntry])
+    ensures items { digests.new.items ≡ filter (λ digest. names entries.now digest.id) digests.old.items }
+    ensures few { vec_len digests.new ≤ vec_len digests.old }
+    ensures room { vec_capacity digests.new ≡ vec_capacity digests.old }
+{
+    digests.retain(|digest| names(entries, digest.id()));
+}
+
 /// The digests that are set, by rising id. A contract sees the list of them.
 #[derive(Drop)]
 pub struct Lists {
@@ -138,6 +159,46 @@ impl Lists {
             Some(config) => configure(&mut self.digests, self.alloc, digest, *config),
             None => forget(&mut self.digests, digest),
         }
+    }
+
+    // Whether a digest is set, or there is room for one more.
+    fn has_room(&self, id: u32) -> bool
+        ensures room { result ≡ has_room self.now id }
+        ensures few { length self.now ≤ 128 }
+    {
+        is_set(&self.digests, id) || self.digests.len() < DIGEST_LIMIT
+    }
+
+    // Sets the configuration of an entry's digest, where there is room for it.
+    fn set_entry(&mut self, entry: &DigestEntry)
+        ensures { self.new ≡ with_entry self.old entry.now }
+    {
+        if self.has_room(entry.digest_id) {
+            self.set(entry.digest_id, Some(&entry.config));
+        }
+    }
+
+    fn forget_others(&mut self, entries: &[DigestEntry])
+        ensures { self.new ≡ filter (λ digest. names entries.now digest.id) self.old }
+    {
+        keep_named(&mut self.digests, entries);
+    }
+
+    fn set_entries(&mut self, entries: &[DigestEntry])
+        ensures { self.new ≡ fold with_entry self.old entries.now }
+    {
+        for entry in entries {
+            self.set_entry(entry);
+        }
+    }
+
+    /// Sets the digests that entries name, in their order, with their configurations, as far as there is room, and forgets all that is kept
+    /// of other digests. Of one that was set and stays set all that is kept stays.
+    pub fn set_to(&mut self, entries: &[DigestEntry])
+        ensures { self.new ≡ set_to self.old entries.now }
+    {
+        self.forget_others(entries);
+        self.set_entries(entries);
     }
 
     /// Takes a sample of a digest at a moment, in nanoseconds, and gives the list that is sent, if it

@@ -1,5 +1,5 @@
 -- The journal, its lanes, and what each token of the table stands for.
-use Rattle.std.specs.Prelude.{◌≡◌, ◌==◌, ℕ, ◌+◌, ◌≤◌, List, [], ◌∷◌, ◌++◌, filter}
+use Rattle.std.specs.Prelude.{◌≡◌, ◌==◌, ℕ, zero, suc, ◌+◌, ◌≤◌, List, [], ◌∷◌, ◌++◌, filter}
 use Rattle.atomic_table.specs.Seated.{TableId}
 
 -- which table it is
@@ -46,6 +46,11 @@ with_lane j = record { table = j.table; entries = j.entries; lanes = j.lanes + 1
 -- the lane that is claimed next: it has no entry
 abbrev pub next_of : {E : Type 0} → Journal E → Lane E
 next_of j = record { table = j.table; number = j.lanes; entries = [] }
+
+-- the seats of the first so many lanes, by their numbers, none of which has an entry
+abbrev pub seats_from : {E : Type 0} → LaneTableId → ℕ → List (Lane E)
+seats_from table zero = []
+seats_from table (suc more) = seats_from table more ++ (record { table = table; number = more; entries = [] }) ∷ []
 
 -- the journal with one entry more
 abbrev pub with_entry : {E : Type 0} → Journal E → E → Journal E

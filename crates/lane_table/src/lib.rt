@@ -3,10 +3,12 @@
 
 mod entry;
 pub mod laws;
+mod opening;
 mod roles;
 mod seats;
 mod table;
 
 pub use entry::OfLane;
+pub use opening::open_lanes;
 pub use seats::{JournalSeat, LaneSeat, Note};
 pub use table::LaneTable;

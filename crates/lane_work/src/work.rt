@@ -6,6 +6,7 @@ ghost use Rattle.lane_work.specs.Running.{IsRefused};
 ghost use Rattle.lane_work.specs.Work.{new_work, Ran};
 ghost use Rattle.plane_spec.specs.Entries.{slot_limit};
 ghost use Rattle.pub_snap.specs.Beginnings.{Begins};
+ghost use Rattle.snap_worker.specs.Sums.{AreSums, NotesOwn, SeatLooks, noted_by};
 
 use crate::recording::record_last;
 use counter_bank::{Bank, Seat};
@@ -14,7 +15,7 @@ use p4_types::records::Record;
 use p4_types::tape::Who;
 use pkt_worker::Verdict;
 use pub_snap::{Told, Viewer};
-use snap_worker::{NoEntry, Worker};
+use snap_worker::{Loaded, NoEntry, Worker};
 use std::alloc::Global;
 use std::marker::Model;
 
@@ -212,6 +213,20 @@ impl LaneWork {
         ensures others { self.new ≡ record self.old { seat = self.new.seat } }
     {
         self.worker.count(bank, slot)
+    }
+
+    /// Loads the counters of so many slots, from slot 0 on: those of a slot are at least what this lane counted there, and at
+    /// least what it read there before with what it counted since.
+    pub fn load(&mut self, alloc: Global, bank: &Bank, slots: u32) -> Result<Loaded, NoMemory>
+        requires bank { self.old.seat.bank ≡ bank.now.id }
+        requires slots { slots ≤ bank.now.slots }
+        ensures looks { SeatLooks self.old.seat self.new.seat }
+        ensures sums { IfOk result (λ loaded. AreSums loaded (noted_by self.new.seat)) }
+        ensures own { IfOk result (λ loaded. NotesOwn (length loaded) self.new.seat) }
+        ensures all { IfOk result (λ loaded. length loaded ≡ slots) }
+        ensures others { self.new ≡ record self.old { seat = self.new.seat } }
+    {
+        self.worker.load(alloc, bank, slots)
     }
 
     /// What is left of the work, with the record of each packet.

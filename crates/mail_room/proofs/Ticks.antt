@@ -1,5 +1,5 @@
 -- A tick where no digest is set.
-use Rattle.std.proofs.Common.{◌≡◌, ℕ, false, List, [], ◌∷◌, Option, Some, None, refl}
+use Rattle.std.proofs.Common.{◌≡◌, ℕ, false, List, [], ◌∷◌, Option, refl}
 use Rattle.std.specs.Prelude.{◌≢◌, ◌==◌, length}
 use Rattle.digest_lists.specs.State.{DigestState}
 use Rattle.mail_room.specs.Boxes.{BoxState}

@@ -1,6 +1,7 @@
 -- What waits for all controllers, and the digests whose lists they are sent (this project's profile).
-use Rattle.std.specs.Prelude.{◌≡◌, ℕ, ◌+◌, ◌-◌, ◌^◌, ◌<◌, ◌==◌, min, if◌then◌else◌, Bool, true, false, List, [], replicate, slice_index_or, slice_set, Option, Some, None}
-use Rattle.std.specs.List.{list_any}
+use Rattle.std.specs.Prelude.{◌≡◌, ℕ, ◌+◌, ◌-◌, ◌^◌, ◌<◌, ◌==◌, nat_lt, min, if◌then◌else◌, Bool, true, false, List, [], filter, replicate, slice_index_or, slice_set, Option, Some, None}
+use Rattle.std.specs.List.{fold, list_any}
+use Rattle.p4_types.specs.declared.calls.Notice.{Notice}
 use Rattle.p4_types.specs.declared.messages.DigestList.{DigestList}
 use Rattle.p4_types.specs.declared.messages.P4Data.{P4Data}
 use Rattle.p4_types.specs.declared.messages.PacketIn.{PacketIn}
@@ -27,6 +28,10 @@ abbrev pub IsLaneIfAny : Option ℕ → Type 0
 IsLaneIfAny None = Unit {0}
 IsLaneIfAny (Some lane) = IsLane lane
 
+-- the notices that are for a caller itself
+abbrev pub own_notices : ℕ → List Notice → List Notice
+own_notices caller notices = filter (λ notice. notice.lane == caller) notices
+
 module _ {T : Type 0} where
   -- nothing waits, and no digest is set
   abbrev pub no_mail : MailState T
@@ -51,6 +56,14 @@ module _ {T : Type 0} where
   -- a notice to a lane
   abbrev pub notified : MailState T → ℕ → StreamMessageResponse → T → MailState T
   notified mail lane message told = with_box mail lane (after_notice (box_at mail lane) message told)
+
+  -- a notice of a call to another lane that may have mail, with what the call has told
+  abbrev pub posted_one : ℕ → T → MailState T → Notice → MailState T
+  posted_one caller told mail notice = if notice.lane == caller then mail else if nat_lt notice.lane LANE_LIMIT then notified mail notice.lane notice.message told else mail
+
+  -- the notices of a call to other lanes
+  abbrev pub posted : ℕ → T → MailState T → List Notice → MailState T
+  posted caller told mail notices = fold (posted_one caller told) mail notices
 
   -- a packet or a digest list to a lane
   abbrev pub sent_to : MailState T → ℕ → StreamMessageResponse → MailState T
@@ -79,7 +92,7 @@ module _ {T : Type 0} where
   abbrev pub Gives : MailState T → ℕ → Option (Next × Option T) → MailState T → Type 0
   Gives before lane given after = (given ≡ next_of (box_at before lane)) × (after ≡ with_box before lane (after_next (box_at before lane)))
 
-  -- Where memory was missing that is counted, and nothing else changes; it is counted nowhere else.
-  abbrev pub Counts : Bool → MailState T → MailState T → MailState T → Type 0
-  Counts true before done after = after ≡ done
-  Counts false before done after = after ≡ missed before
+  -- It is done, or memory was missing: that is counted, and nothing else changes. It is counted nowhere else.
+  abbrev pub IsDoneOrMissed : Bool → MailState T → MailState T → MailState T → Type 0
+  IsDoneOrMissed true before done after = after ≡ done
+  IsDoneOrMissed false before done after = after ≡ missed before

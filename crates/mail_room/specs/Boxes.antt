@@ -4,7 +4,13 @@ use Rattle.p4_types.specs.declared.messages.StreamMessageResponse.{StreamMessage
 use Rattle.mail_room.specs.declared.outbox.TheConstants.{PACKET_LIMIT, NOTICE_LIMIT}
 use Rattle.mail_room.specs.declared.mailbox.Waiting.{Waiting}
 use Rattle.mail_room.specs.declared.next.Next.{Next}
-use Rattle.mail_room.specs.declared.next.Next.TheVariants.{Message, Overflow}
+use Rattle.mail_room.specs.declared.next.Next.TheVariants.{Message, Output, Overflow}
+
+-- what a box gives: a message, or that one found no room
+abbrev pub IsMail : Next → Type 0
+IsMail (Message message) = Unit {0}
+IsMail (Output output) = ⊥
+IsMail Overflow = Unit {0}
 
 -- the messages that wait, oldest first, and whether a notice found no room behind them
 pub record BoxState (T : Type 0) : Type 0 where

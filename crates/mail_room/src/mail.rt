@@ -1,15 +1,19 @@
 //! What waits for all controllers.
-ghost use Rattle.std.specs.Prelude.{◌≡◌, ◌≢◌, ◌⊎◌, [], IfOk, All, replicate};
+ghost use Rattle.std.specs.Prelude.{◌≡◌, ◌≢◌, ◌⊎◌, [], false, IfOk, IfSome, All, replicate};
 ghost use Rattle.std.specs.Option.{option_copied};
-ghost use Rattle.digest_lists.specs.Fold.{HasRoom, set_digest, acknowledge};
-ghost use Rattle.mail_room.specs.Boxes.{empty_box};
-ghost use Rattle.mail_room.specs.AllMail.{IsLane, IsLaneIfAny, no_mail, with_box, with_lists, missed, notified, sent_to, packet_in, list_to, sampled, ticked, Gives, Counts};
+ghost use Rattle.digest_lists.specs.Fold.{HasRoom, set_digest, set_to, acknowledge};
+ghost use Rattle.mail_room.specs.Boxes.{IsMail, empty_box};
+ghost use Rattle.mail_room.specs.AllMail.{IsLane, IsLaneIfAny, no_mail, with_box, with_lists, missed, notified, posted, posted_one, own_notices, sent_to, packet_in, list_to, sampled, ticked, Gives, IsDoneOrMissed};
 
+use crate::again::Again;
 use crate::mailbox::Mailbox;
 use crate::next::Next;
 use digest_lists::Lists;
-use list_types::NoMemory;
-use p4_types::messages::{DigestConfig, DigestList, P4Data, PacketIn, StreamMessageResponse};
+use list_types::{List, NoMemory};
+use p4_types::calls::Notice;
+use p4_types::messages::{
+    DigestConfig, DigestEntry, DigestList, P4Data, PacketIn, StreamMessageResponse,
+};
 use std::alloc::Global;
 use std::marker::Model;
 
@@ -84,6 +88,13 @@ impl<T: Drop> Mail<T> {
         self.lists.set(digest, config);
     }
 
+    /// Sets the digests that entries name, with their configurations, as far as there is room, and forgets all that is kept of other digests.
+    pub fn set_digests(&mut self, entries: &[DigestEntry])
+        ensures { self.new ≡ with_lists self.old (set_to self.old.lists entries.now) }
+    {
+        self.lists.set_to(entries);
+    }
+
     /// Acknowledges a list of a digest.
     pub fn acknowledge(&mut self, digest: u32, list: u64)
         ensures { self.new ≡ with_lists self.old (acknowledge self.old.lists digest list) }
@@ -98,6 +109,38 @@ impl<T: Drop> Mail<T> {
         ensures { self.new ≡ notified self.old lane message told }
     {
         self.boxes[usize::from(lane)].put_notice(message, told);
+    }
+
+    // Puts a notice of a call to another lane behind what waits there, where the lane may have mail.
+    fn post_one(&mut self, caller: u16, told: &T, notice: Notice)
+    where
+        T: Again,
+        requires { notice.lane ≢ caller }
+        ensures { self.new ≡ posted_one caller told.now self.old notice }
+    {
+        if usize::from(notice.lane) < LANE_LIMIT {
+            self.notice(notice.lane, notice.message, told.again());
+        }
+    }
+
+    /// Puts the notices of a call to other lanes behind what waits there, as `notice` does. Those for the caller are given back, in their order.
+    pub fn post(&mut self, caller: u16, told: &T, notices: List<Notice>) -> List<Notice>
+    where
+        T: Again,
+        ensures mail { self.new ≡ posted caller told.now self.old notices }
+        ensures own { result ≡ own_notices caller notices }
+    {
+        let mut notices = notices.into_vec();
+        let mut place = 0;
+        'notices: while place < notices.len() {
+            if notices[place].lane == caller {
+                place += 1;
+            } else {
+                let notice = notices.remove(place);
+                self.post_one(caller, told, notice);
+            }
+        }
+        List::from_vec(notices)
     }
 
     fn send(&mut self, lane: u16, message: StreamMessageResponse)
@@ -147,7 +190,7 @@ impl<T: Drop> Mail<T> {
         now: u64,
     ) -> bool
         requires { IsLaneIfAny primary }
-        ensures { Counts result self.old (sampled self.old primary digest sample now) self.new }
+        ensures { IsDoneOrMissed result self.old (sampled self.old primary digest sample now) self.new }
     {
         match self.lists.sample(digest, sample, now) {
             Ok(list) => {
@@ -162,11 +205,16 @@ impl<T: Drop> Mail<T> {
     }
 
     /// Sends the primary the list of the lowest digest that is due at a moment, in nanoseconds, or nobody without one. Without memory nothing is
-    /// sent, which is counted, and the answer is false.
+    /// sent, which is counted, and the answer is false. Where no digest is set, no memory is asked for.
+    #[tactic(auto, using(crate::proofs::Ticks::nothing_set, crate::proofs::Ticks::some_set))]
     pub fn tick(&mut self, primary: Option<u16>, now: u64) -> bool
         requires { IsLaneIfAny primary }
-        ensures { Counts result self.old (ticked self.old primary now) self.new }
+        ensures done { IsDoneOrMissed result self.old (ticked self.old primary now) self.new }
+        ensures set { result ≡ false → self.old.lists ≢ [] }
     {
+        if self.lists.is_empty() {
+            return true;
+        }
         match self.lists.tick(now) {
             Ok(list) => {
                 self.send_list(primary, list);
@@ -182,29 +230,20 @@ impl<T: Drop> Mail<T> {
     /// Gives the lane's oldest message, with what its call has told if it is a notice; else once an overflow, where a notice found no room.
     pub fn take(&mut self, lane: u16) -> Option<(Next, Option<T>)>
         requires { IsLane lane }
-        ensures { Gives self.old lane result self.new }
+        ensures given { Gives self.old lane result self.new }
+        ensures mail { IfSome result (λ given. IsMail given.0) }
     {
         self.boxes[usize::from(lane)].next()
-    }
-
-    // Where no digest is set, no memory is asked for.
-    #[tactic(auto, using(crate::proofs::Ticks::nothing_set, crate::proofs::Ticks::some_set))]
-    fn tick_if_set(&mut self, primary: Option<u16>, now: u64)
-        requires { IsLaneIfAny primary }
-        ensures { (self.new ≡ ticked self.old primary now) ⊎ ((self.old.lists ≢ []) × (self.new ≡ missed self.old)) }
-    {
-        if !self.lists.is_empty() {
-            self.tick(primary, now);
-        }
     }
 
     /// `tick`, and then `take`. Where no digest is set, no memory is asked for.
     pub fn next(&mut self, lane: u16, primary: Option<u16>, now: u64) -> Option<(Next, Option<T>)>
         requires lane { IsLane lane }
         requires primary { IsLaneIfAny primary }
-        ensures { Gives (ticked self.old primary now) lane result self.new ⊎ ((self.old.lists ≢ []) × Gives (missed self.old) lane result self.new) }
+        ensures given { Gives (ticked self.old primary now) lane result self.new ⊎ ((self.old.lists ≢ []) × Gives (missed self.old) lane result self.new) }
+        ensures mail { IfSome result (λ given. IsMail given.0) }
     {
-        self.tick_if_set(primary, now);
+        self.tick(primary, now);
         self.take(lane)
     }
 

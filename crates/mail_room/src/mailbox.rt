@@ -1,6 +1,6 @@
 //! What waits for one controller, and whether a notice found no room there.
-ghost use Rattle.std.specs.Prelude.{◌≡◌, IfOk};
-ghost use Rattle.mail_room.specs.Boxes.{empty_box, after_packet, after_notice, next_of, after_next};
+ghost use Rattle.std.specs.Prelude.{◌≡◌, IfOk, IfSome};
+ghost use Rattle.mail_room.specs.Boxes.{IsMail, empty_box, after_packet, after_notice, next_of, after_next};
 
 use crate::next::Next;
 use crate::outbox::Outbox;
@@ -73,6 +73,7 @@ impl<T: Drop> Mailbox<T> {
     /// Takes the message that waits longest; where none waits, says once that a notice found no room.
     pub fn next(&mut self) -> Option<(Next, Option<T>)>
         ensures next { result ≡ next_of self.old }
+        ensures mail { IfSome result (λ given. IsMail given.0) }
         ensures rest { self.new ≡ after_next self.old }
     {
         if let Some(Waiting { message, told }) = self.waiting.next() {

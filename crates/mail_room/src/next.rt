@@ -1,13 +1,6 @@
 //! What a controller is given next on its stream channel.
-use list_types::ByteList;
 use p4_types::messages::StreamMessageResponse;
-
-/// A packet that leaves by a port.
-#[derive(Drop)]
-pub struct Output {
-    pub port: u16,
-    pub bytes: ByteList,
-}
+use p4_types::records::Output;
 
 /// What a controller is given next.
 #[derive(Drop)]

@@ -1,5 +1,5 @@
 -- What holds of each lane, lane by lane from the highest.
-use Rattle.std.proofs.Common.{◌≡◌, ℕ, zero, suc, ◌+◌, List, [], ◌∷◌, ◌++◌, length, replicate, slice_index_or, slice_set, refl, ap, sym, subst, ◌∙◌, ◌<◌, arith, append_assoc, add-one}
+use Rattle.std.proofs.Common.{◌≡◌, ℕ, zero, suc, ◌+◌, List, [], ◌∷◌, ◌++◌, length, slice_index_or, slice_set, refl, ap, sym, subst, ◌∙◌, ◌<◌, arith, append_assoc, add-one}
 use Rattle.std.proofs.lemmas.List.{append-nil}
 use Rattle.std.specs.List.{AllByRecursion, AllZip}
 use Rattle.run_lanes.specs.Gathered.{OfEach}
@@ -71,8 +71,3 @@ each_becomes P Q R zero (x ∷ xs) ys becomes h did = absurd h
 each_becomes P Q R (suc n) [] ys becomes h did = absurd h
 each_becomes P Q R (suc n) (x ∷ xs) [] becomes h did = absurd did
 each_becomes P Q R (suc n) (x ∷ xs) (y ∷ ys) becomes h did = (becomes n x y h.0 did.0, each_becomes P Q R n xs ys becomes h.1 did.1)
-
--- what holds of one holds of each of so many that are like it
-pub each_alike : {A : Type 0} (P : A → Type 0) (n : ℕ) (x : A) → P x → AllByRecursion P (replicate n x)
-each_alike P zero x h = tt
-each_alike P (suc n) x h = (h, each_alike P n x h)

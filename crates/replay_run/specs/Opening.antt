@@ -2,7 +2,7 @@
 use Rattle.std.specs.Prelude.{◌≡◌, ℕ, ◌-◌, List, [], length, replicate}
 use Rattle.std.specs.List.{AllByRecursion}
 use Rattle.counter_bank.specs.Account.{Account, BankId, first_seat}
-use Rattle.ctl_lock.specs.Finishing.{seats_from}
+use Rattle.lane_table.specs.Lanes.{seats_from}
 use Rattle.ctl_lock.specs.Locked.{seat_of}
 use Rattle.ctl_lock.specs.Passing.{Passing}
 use Rattle.event_log.specs.Lists.{ListName}

@@ -1,7 +1,7 @@
 //! The passes of all lanes, before they have made or taken anything.
 ghost use Rattle.std.specs.Prelude.{◌≡◌, ◌+◌, ◌<◌, ◌≤◌, ◌++◌, ◌∷◌, [], ℕ, length, IfOk, OnOk};
 ghost use Rattle.std.specs.List.{AllByRecursion};
-ghost use Rattle.ctl_lock.specs.Finishing.{seats_from};
+ghost use Rattle.lane_table.specs.Lanes.{seats_from};
 ghost use Rattle.replay_run.specs.Opening.{IsAsker, IsPost, IsTaker};
 ghost use Rattle.run_lanes.specs.Gathered.{OfEach};
 ghost use Rattle.tape_lanes.specs.Lanes.{IsItem, by_lane};

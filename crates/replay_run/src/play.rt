@@ -2,7 +2,7 @@
 ghost use Rattle.std.specs.Prelude.{◌≡◌, ◌≤◌, [], length, IfOk, OnOk};
 ghost use Rattle.std.specs.List.{AllByRecursion};
 ghost use Rattle.counter_bank.specs.Account.{first_seat};
-ghost use Rattle.ctl_lock.specs.Finishing.{seats_from};
+ghost use Rattle.lane_table.specs.Lanes.{seats_from};
 ghost use Rattle.p4_types.specs.declared.tape.TapeRecord.{TapeRecord};
 ghost use Rattle.plane_spec.specs.Entries.{slot_limit};
 ghost use Rattle.replay_run.specs.Ends.{HasAsked, HasTaken};

@@ -26,13 +26,17 @@ fn ask_each<
     requires lanes { OfEach IsAsker 32 passes.items }
     ensures ended { IfOk result (λ passes. OfEach HasAsked 32 passes.items) }
 {
-    let ended = map_vec(
+    let Ok(ended) = map_vec(
         rt,
         passes,
         &|pass: CallPass<J>| -> CallPass<J>
             ensures { EndsAsking pass result }
         { ask_all(rt, desk, gate, pass) },
-    )?;
+    ) else {
+        // lanes were dropped, whose calls workers may wait for
+        desk.give_up();
+        return Err(NoMemory);
+    };
     Ok(ended)
 }
 

@@ -7,7 +7,8 @@ use Rattle.ctl_lock.proofs.Meeting.{on_lane, signed_lane}
 use Rattle.ctl_lock.specs.Calls.{journal_of}
 use Rattle.ctl_lock.specs.Finishing.{Meeting}
 use Rattle.ctl_lock.specs.Passing.{IsOwn, IsPass, entering, least_of}
-use Rattle.ctl_lock.specs.Reading.{IsReading, noted_by}
+use Rattle.ctl_lock.specs.Reading.{IsReading}
+use Rattle.snap_worker.specs.Sums.{noted_by}
 use Rattle.ctl_lock.specs.declared.signed.Signed.{Signed}
 use Rattle.counter_bank.specs.Account.{BankId}
 use Rattle.event_log.specs.Lists.{ListName}

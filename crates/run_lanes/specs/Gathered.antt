@@ -3,7 +3,8 @@ use Rattle.std.specs.Prelude.{◌≡◌, ℕ, zero, suc, ◌≤◌, List, [], �
 use Rattle.std.specs.List.{filter_map, AllByRecursion}
 use Rattle.ctl_lock.specs.Finishing.{Meeting}
 use Rattle.ctl_lock.specs.Passing.{entering}
-use Rattle.ctl_lock.specs.Reading.{IsReading, noted_by}
+use Rattle.ctl_lock.specs.Reading.{IsReading}
+use Rattle.snap_worker.specs.Sums.{noted_by}
 use Rattle.ctl_lock.specs.declared.signed.Signed.{Signed}
 use Rattle.lane_table.specs.Lanes.{of_lane}
 use Rattle.lane_work.specs.Running.{beside, IsWork}

@@ -8,7 +8,8 @@ use Rattle.ctl_lock.proofs.Meeting.{on_lane, signed_lane}
 use Rattle.ctl_lock.specs.Calls.{journal_of}
 use Rattle.ctl_lock.specs.Locked.{SeeAll}
 use Rattle.ctl_lock.specs.Passing.{entering}
-use Rattle.ctl_lock.specs.Reading.{Turn, noted_by}
+use Rattle.ctl_lock.specs.Reading.{Turn}
+use Rattle.snap_worker.specs.Sums.{noted_by}
 use Rattle.ctl_lock.specs.declared.signed.Signed.{Signed}
 use Rattle.lane_table.specs.Lanes.{of_lane}
 use Rattle.lane_work.proofs.Names.{each_has_its_own}

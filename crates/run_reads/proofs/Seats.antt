@@ -4,7 +4,7 @@ use Rattle.std.specs.List.{AllByRecursion}
 use Rattle.counter_bank.proofs.Slots.{none_falls}
 use Rattle.counter_bank.specs.Account.{Account}
 use Rattle.counter_bank.specs.Account as accounts
-use Rattle.ctl_lock.specs.Reading.{noted_by}
+use Rattle.snap_worker.specs.Sums.{noted_by}
 use Rattle.lane_work.proofs.Lists.{each_of_map}
 use Rattle.lane_work.specs.Work.{Work}
 use Rattle.run_counts.proofs.Rising.{AreNoMore, no_more_self, no_more_trans}

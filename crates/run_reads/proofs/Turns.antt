@@ -3,9 +3,10 @@ use Rattle.std.proofs.Common.{◌≡◌, ℕ, zero, suc, ◌<◌, ◌≤◌, ◌
 use Rattle.std.specs.List.{AllByRecursion, cons_option, filter_map}
 use Rattle.std.proofs.Math.Nat.{mod-eq_of_lt, mod-le}
 use Rattle.std.proofs.lemmas.Bool.{cases_lt}
-use Rattle.ctl_lock.specs.Calls.{figures_in, made_of}
+use Rattle.ctl_lock.specs.Calls.{made_of}
+use Rattle.snap_worker.specs.Sums.{figures_in, AreSums, in_words}
 use Rattle.ctl_lock.specs.Locked.{SeesAll, reads}
-use Rattle.ctl_lock.specs.Reading.{AreSums, HasOwnPacket, Rising, Turn, behind_packet, in_words}
+use Rattle.ctl_lock.specs.Reading.{HasOwnPacket, Rising, Turn, behind_packet}
 use Rattle.ctl_lock.specs.declared.signed.Signed.{Signed}
 use Rattle.p4_types.specs.declared.calls.Call.{Call}
 use Rattle.p4_types.specs.declared.calls.Call.TheVariants as calls

@@ -1,3 +1,4 @@
 pub mod Bounds
 pub mod Counted
 pub mod Later
+pub mod Noting

@@ -1,3 +1,4 @@
 pub mod Counting
+pub mod Sums
 pub mod Working
 pub mod Laws

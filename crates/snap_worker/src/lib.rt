@@ -3,7 +3,9 @@
 
 mod counting;
 pub mod laws;
+mod loading;
 mod watch;
 mod worker;
 
+pub use loading::Loaded;
 pub use worker::{NoEntry, Worker};

@@ -6,10 +6,12 @@ ghost use Rattle.plane_spec.specs.Entries.{slot_limit};
 ghost use Rattle.pub_snap.specs.Beginnings.{Begins};
 ghost use Rattle.pub_snap.specs.Snapshots.{steps_in};
 ghost use Rattle.snap_worker.specs.Counting.{after_packet};
+ghost use Rattle.snap_worker.specs.Sums.{AreSums, NotesOwn, SeatLooks, noted_by};
 ghost use Rattle.snap_worker.specs.Working.{new_worker, one_more, state_after, verdict_in};
 ghost use Rattle.switch_spec.specs.Meaning.{receiver};
 
 use crate::counting::count_hits;
+use crate::loading::{Loaded, load};
 use crate::watch::Watch;
 use counter_bank::{Bank, Seat};
 use list_types::NoMemory;
@@ -141,6 +143,20 @@ impl Worker {
         ensures others { self.new ≡ record self.old { seat = self.new.seat } }
     {
         bank.load(&mut self.seat, slot)
+    }
+
+    /// Loads the counters of so many slots, from slot 0 on: those of a slot are at least what this worker counted there, and at
+    /// least what it read there before with what it counted since.
+    pub fn load(&mut self, alloc: Global, bank: &Bank, slots: u32) -> Result<Loaded, NoMemory>
+        requires bank { self.old.seat.bank ≡ bank.now.id }
+        requires slots { slots ≤ bank.now.slots }
+        ensures looks { SeatLooks self.old.seat self.new.seat }
+        ensures sums { IfOk result (λ loaded. AreSums loaded (noted_by self.new.seat)) }
+        ensures own { IfOk result (λ loaded. NotesOwn (length loaded) self.new.seat) }
+        ensures all { IfOk result (λ loaded. length loaded ≡ slots) }
+        ensures others { self.new ≡ record self.old { seat = self.new.seat } }
+    {
+        load(alloc, bank, &mut self.seat, slots)
     }
 
     /// The viewer, which has seen and learnt what the worker has, and the seat.

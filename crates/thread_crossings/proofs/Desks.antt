@@ -7,7 +7,7 @@ use Rattle.atomic_table.proofs.shared.Seat.TheSendSync.{the_send as place_send}
 use Rattle.atomic_table.proofs.shared.Shared.TheSendSync.{the_send as board_send, the_sync as board_sync}
 use Rattle.ctl_core.specs.contracts.control.Control as Control
 use Rattle.ctl_lock.specs.contracts.desk.TapeDesk as TapeDesk
-use Rattle.ctl_lock.specs.contracts.figures.Loaded as Loaded
+use Rattle.snap_worker.specs.contracts.loading.Loaded as Loaded
 use Rattle.ctl_lock.specs.contracts.line.Line as Line
 use Rattle.ctl_lock.specs.contracts.locked.Locked as Locked
 use Rattle.ctl_lock.specs.contracts.met.Met as Met

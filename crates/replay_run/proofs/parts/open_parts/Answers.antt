@@ -1,8 +1,8 @@
 use Rattle.std.proofs.Common.{◌∙◌, List, length, ap, refl, subst, sym}
 use Rattle.std.proofs.lemmas.List.{length-replicate}
 use Rattle.std.specs.List.{AllByRecursion}
+use Rattle.lane_table.proofs.Places.{each_alike}
 use Rattle.pub_snap.specs.Snapshots.{Sight}
-use Rattle.replay_run.proofs.Lanes.{each_alike}
 use Rattle.replay_run.proofs.parts.open_parts.Goals as goal
 use Rattle.replay_run.specs.Opening.{SeesRun}
 

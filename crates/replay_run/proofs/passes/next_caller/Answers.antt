@@ -1,7 +1,8 @@
 use Rattle.std.proofs.Common.{◌≡◌, ap}
 use Rattle.ctl_lock.specs.declared.signed.Signed.{Signed}
 use Rattle.lane_table.specs.Lanes.{Lane}
-use Rattle.replay_run.proofs.Lasts.{last_taken, place_taken, some_lane, value_taken}
+use Rattle.lane_table.proofs.Places.{last_taken, place_taken}
+use Rattle.replay_run.proofs.Lasts.{some_lane, value_taken}
 use Rattle.replay_run.proofs.passes.next_caller.Goals as goal
 use Rattle.replay_run.specs.Opening.{IsPost}
 

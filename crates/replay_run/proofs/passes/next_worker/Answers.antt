@@ -1,6 +1,7 @@
 use Rattle.std.proofs.Common.{◌≡◌, subst, sym, List}
 use Rattle.std.specs.List.{AllByRecursion}
-use Rattle.replay_run.proofs.Lasts.{last_taken, some_lane, value_taken}
+use Rattle.lane_table.proofs.Places.{last_taken}
+use Rattle.replay_run.proofs.Lasts.{some_lane, value_taken}
 use Rattle.replay_run.proofs.passes.next_worker.Goals as goal
 use Rattle.replay_run.specs.Opening.{IsPost}
 use Rattle.switch_spec.specs.declared.calls.WorkerItem.{WorkerItem}

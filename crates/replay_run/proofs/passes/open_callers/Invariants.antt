@@ -1,6 +1,6 @@
 use Rattle.std.proofs.Common.{◌≡◌, ◌+◌, ◌≤◌, length}
 use Rattle.std.specs.List.{AllByRecursion}
-use Rattle.ctl_lock.specs.Finishing.{seats_from}
+use Rattle.lane_table.specs.Lanes.{seats_from}
 use Rattle.replay_run.proofs.Lanes.{GoesOn}
 use Rattle.replay_run.proofs.passes.open_callers.Given as goal
 use Rattle.replay_run.specs.Opening.{IsAsker, IsPost}

@@ -19,5 +19,5 @@ map_vec-requires-sync-F g c κs within = search (desk_sync, sendable) depth 20
 
 pub returns : goal.returns
 returns g c =
-    let given = each_given _ _ EndsAsking c.args.passes.items c.in_ok-ended.ended.items (λ before after did. did.met) (omega (arith, c.in_ok-ended.ensures.len, c.in_ok-ended.ended.ok.0, c.args.passes.ok.0)) c.in_ok-ended.ensures.each in
-    record { ended = each_becomes IsAsker HasAsked EndsAsking 32 c.args.passes.items c.in_ok-ended.ended.items (λ lane before after is did. subst (λ (l : ℕ). HasAsked l after) is did) c.requires.lanes given }
+    let given = each_given _ _ EndsAsking c.args.passes.items c.in-Ok.ended.items (λ before after did. did.met) (omega (arith, c.in-Ok.ensures.len, c.in-Ok.ended.ok.0, c.args.passes.ok.0)) c.in-Ok.ensures.each in
+    record { ended = each_becomes IsAsker HasAsked EndsAsking 32 c.args.passes.items c.in-Ok.ended.items (λ lane before after is did. subst (λ (l : ℕ). HasAsked l after) is did) c.requires.lanes given }

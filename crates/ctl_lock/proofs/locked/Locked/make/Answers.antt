@@ -1,6 +1,7 @@
 use Rattle.std.proofs.Common.{◌≡◌, ◌<◌, ◌≤◌, ◌-◌, ◌^◌, ◌∙◌, ◌++◌, ◌∷◌, ap, sym, refl, List, [], ℕ, length, drop, slice_index, IfSome, subst, arith, length-append}
 use Rattle.std.proofs.lemmas.List.{length-map}
-use Rattle.ctl_lock.specs.Calls.{figures_in, journal_of, made_of}
+use Rattle.ctl_lock.specs.Calls.{journal_of, made_of}
+use Rattle.snap_worker.specs.Sums.{figures_in}
 use Rattle.ctl_lock.specs.Locked.{IsStanding, IsEntry, Locking, SeeAll, SeesAll, seat_of}
 use Rattle.ctl_lock.specs.declared.signed.Signed.{Signed}
 use Rattle.lane_table.specs.Lanes.{Journal, with_entry}

@@ -1,0 +1,35 @@
+-- What a pass is given next.
+use Rattle.std.proofs.Common.{◌≡◌, List, [], ◌∷◌, drop, Option, Some, None, IfSome, ap, sym, subst, ◌∙◌}
+use Rattle.std.specs.Prelude.{slice_get}
+use Rattle.live_desk.specs.Passing.{HasLearnt, IsGiven, IsNoOutput, Passing}
+use Rattle.mail_room.specs.Boxes.{IsMail}
+use Rattle.mail_room.specs.declared.next.Next.{Next}
+use Rattle.mail_room.specs.declared.next.Next.TheVariants as nexts
+use Rattle.p4_types.specs.declared.records.Output.{Output}
+
+abbrev as_next : Option Output → Option Next
+as_next None = None
+as_next (Some output) = Some (nexts.Output output)
+
+-- the oldest output
+pub given_output : (waiting : List Output) (output : Output) (before after : Passing) → Some output ≡ slice_get waiting 0 → after ≡ record before { waiting = drop 1 waiting }
+    → IsGiven waiting (Some (nexts.Output output)) before after
+given_output [] output before after first rest = absurd (cc first)
+given_output (oldest ∷ others) output before after first rest = (ap as_next first, rest)
+
+mail_is_no_output : (next : Option Next) → IfSome next IsMail → IsNoOutput next
+mail_is_no_output None mail = tt
+mail_is_no_output (Some (nexts.Message message)) mail = tt
+mail_is_no_output (Some (nexts.Output output)) mail = mail
+mail_is_no_output (Some nexts.Overflow) mail = tt
+
+abbrev with_waiting : Passing → List Output → Passing
+with_waiting pass waiting = record pass { waiting = waiting }
+
+-- what waits at the desk, where no output waits
+pub given_mail : (waiting : List Output) (next : Option Next) (before between after : Passing) → before.waiting ≡ waiting → None ≡ slice_get waiting 0 → between ≡ record before { waiting = drop 1 waiting }
+    → IfSome next IsMail → HasLearnt between after → IsGiven waiting next before after
+given_mail [] next before between after is none same mail learnt =
+    let as_before : between ≡ before = same ∙ ap (with_waiting before) (sym is) in
+    (mail_is_no_output next mail, subst (λ (p : Passing). HasLearnt p after) as_before learnt)
+given_mail (oldest ∷ others) next before between after is none same mail learnt = absurd (cc none)

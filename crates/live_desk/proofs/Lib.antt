@@ -1,0 +1,5 @@
+mod Asking
+mod Callers
+mod Giving
+mod Lasts
+mod Standing

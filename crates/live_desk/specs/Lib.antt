@@ -1,0 +1,7 @@
+pub mod Callers
+pub mod Sums
+pub mod Locked
+pub mod Passing
+pub mod Mailing
+pub mod Opening
+pub mod Laws

@@ -1,0 +1,82 @@
+-- What a call and a packet give to controllers at a desk that serves (this project's profile).
+use Rattle.std.specs.Prelude.{◌≡◌, ℕ, nat_lt, ◌&&◌, not, if◌then◌else◌, Bool, true, false, List, [], Option, Some, None, is_some}
+use Rattle.digest_lists.specs.Fold.{set_to}
+use Rattle.live_desk.specs.Locked.{Locking}
+use Rattle.live_desk.specs.Passing.{HasFollowed, IsCalled, Passing}
+use Rattle.mail_room.specs.AllMail.{MailState, own_notices, posted, with_box, with_lists}
+use Rattle.mail_room.specs.Boxes.{empty_box}
+use Rattle.p4_types.specs.declared.calls.Call.{Call}
+use Rattle.p4_types.specs.declared.calls.Call.TheVariants as calls
+use Rattle.p4_types.specs.declared.calls.Reply.{Reply}
+use Rattle.p4_types.specs.declared.code.Code.{Code}
+use Rattle.p4_types.specs.declared.messages.DigestEntry.{DigestEntry}
+use Rattle.plane_spec.specs.Planes.{Control, Plane}
+use Rattle.pub_snap.specs.Beginnings.{Beginning}
+use Rattle.role_arbiter.specs.State.{session_in}
+use Rattle.snap_worker.specs.Working.{state_after}
+use Rattle.switch_spec.specs.History.{is_unavailable}
+
+-- what stands behind the lock of a desk that serves
+pub record Living : Type 0 where
+  pub locking : Locking
+  pub mail : MailState Beginning
+  -- the latest moment that the desk was told, in nanoseconds
+  pub moment : ℕ
+
+-- the digest entries of a plane, if there is one
+abbrev pub entries_of : Option Plane → List DigestEntry
+entries_of None = []
+entries_of (Some plane) = plane.digests
+
+-- the lane, where it may have mail
+abbrev pub mail_lane : Option ℕ → Option ℕ
+mail_lane None = None
+mail_lane (Some lane) = if nat_lt lane 32 then Some lane else None
+
+-- whether a lane has a session and may have mail
+abbrev pub is_live : Control → ℕ → Bool
+is_live c lane = nat_lt lane 32 && is_some (session_in c.roles.sessions lane)
+
+-- whether a call with this code ended its caller's stream
+abbrev pub is_left : Call → Code → Bool
+is_left calls.Leave code = not (is_unavailable code)
+is_left _ code = false
+
+-- the mail once a caller's stream ended, if it did
+abbrev pub emptied : Bool → ℕ → MailState Beginning → MailState Beginning
+emptied true lane mail = with_box mail lane empty_box
+emptied false lane mail = mail
+
+-- just these digests are set
+abbrev pub with_digests : List DigestEntry → MailState Beginning → MailState Beginning
+with_digests entries mail = with_lists mail (set_to mail.lists entries)
+
+-- The mail behind a call: its notices to other lanes wait there with what it has told, what waited for a lane that left is dropped, and
+-- just the digests of the active plane are set.
+abbrev pub settled : List DigestEntry → ℕ → Call → Reply → Beginning → MailState Beginning → MailState Beginning
+settled entries lane call reply told mail = with_digests entries (emptied (is_left call reply.code) lane (posted lane told mail reply.notices))
+
+-- the reply as its caller is given it: of its notices it has those for the caller
+abbrev pub reply_to : ℕ → Reply → Reply
+reply_to lane reply = record reply { notices = own_notices lane reply.notices }
+
+-- the pass made a call, and this is shown of its reply
+pub record HasCalled (call : Call) (shown : Reply) (before after : Passing) : Type 0 where
+  pub reply : Reply
+  pub called : IsCalled call reply before after
+  pub shown_is : shown ≡ reply_to before.lane reply
+
+-- The pass made a call, this is shown of its reply, and the mail is that behind the call.
+pub record IsAnswered (call : Call) (shown : Reply) (before after : Passing) (mail now : MailState Beginning) : Type 0 where
+  pub reply : Reply
+  pub called : IsCalled call reply before after
+  pub shown_is : shown ≡ reply_to before.lane reply
+  pub mail_is : now ≡ settled (entries_of (state_after after.last).active) before.lane call reply after.last mail
+
+-- The pass made a call, this is shown of its reply, and it ran the packet that the call made enter at this port.
+pub record IsAsked (cpu : ℕ) (call : Call) (shown : Reply) (before after : Passing) : Type 0 where
+  pub reply : Reply
+  pub between : Passing
+  pub called : IsCalled call reply before between
+  pub shown_is : shown ≡ reply_to before.lane reply
+  pub followed : HasFollowed reply.packet cpu between after

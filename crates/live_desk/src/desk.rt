@@ -1,0 +1,175 @@
+//! The desk at which callers make their calls.
+ghost use Rattle.std.specs.Prelude.{◌≡◌, ◌⊎◌, ◌≤◌, length, IfSome, IfNone};
+ghost use Rattle.live_desk.specs.Mailing.{HasCalled, IsAsked};
+ghost use Rattle.live_desk.specs.Passing.{HasLearnt, IsGiven};
+ghost use Rattle.mail_room.specs.Boxes.{IsMail};
+ghost use Rattle.plane_spec.specs.Entries.{slot_limit};
+ghost use Rattle.pub_snap.specs.Beginnings.{Begins};
+
+use crate::call_steps::CallSteps;
+use crate::desk_told::DeskTold;
+use crate::handed::Handed;
+use crate::live::Live;
+use crate::naming::Naming;
+use crate::pass::Pass;
+use counter_bank::Bank;
+use lane_table::LaneTable;
+use mail_room::Next;
+use p4_types::calls::{Call, Reply};
+use pkt_worker::Verdict;
+use std::alloc::Global;
+use std::marker::Model;
+use std::sync::{Mutex, Wait};
+use std::thread::yield_now;
+
+/// What callers share: the control of the switch and what waits for controllers behind one lock, the table of lanes, and the bank of
+/// counters. It owns what waiting needs.
+#[derive(Drop)]
+pub struct LiveDesk<J: Naming, R: Wait + Drop> {
+    pub(crate) alloc: Global,
+    pub(crate) rt: R,
+    pub(crate) table: LaneTable<CallSteps>,
+    pub(crate) bank: Bank,
+    pub(crate) live: Mutex<Live<J, R>>,
+}
+
+impl<J: Naming, R: Wait + Drop> Model for LiveDesk<J, R> {
+    ghost use Rattle.std.specs.Prelude.{◌≡◌, ◌≤◌};
+    ghost use Rattle.counter_bank.specs.Account.{Opened};
+    ghost use Rattle.plane_spec.specs.Entries.{slot_limit};
+
+    ghost Value = { Opened };
+
+    ghost view = { λ d. d.bank };
+
+    ghost invariant = { λ d. (d.table ≡ J.table) × (d.bank.id ≡ J.bank) × (slot_limit ≤ d.bank.slots) };
+}
+
+impl<J: Naming, R: Wait + Drop> LiveDesk<J, R> {
+    /// A desk at which no call was made.
+    pub(crate) fn new(
+        alloc: Global,
+        rt: R,
+        table: LaneTable<CallSteps>,
+        bank: Bank,
+        live: Live<J, R>,
+    ) -> LiveDesk<J, R>
+        requires table { table ≡ J.table }
+        requires bank { bank.id ≡ J.bank }
+        requires slots { slot_limit ≤ bank.slots }
+        ensures { result ≡ bank }
+    {
+        LiveDesk {
+            alloc,
+            rt,
+            table,
+            bank,
+            live: Mutex::new(live),
+        }
+    }
+
+    /// The counters.
+    pub fn bank(&self) -> &Bank
+        ensures bank { result.now ≡ self.now }
+        ensures name { result.now.id ≡ J.bank }
+        ensures slots { slot_limit ≤ result.now.slots }
+    {
+        &self.bank
+    }
+
+    // Makes the pass's next call, unless the published list does not begin with all that the pass has seen or learnt.
+    fn try_call(&self, pass: &mut Pass<J>, call: &Call) -> Option<Reply>
+        ensures called { IfSome result (λ shown. HasCalled call.now shown pass.old pass.new) }
+        ensures size { IfSome result (λ shown. IfSome shown.packet (λ packet. length packet ≤ 9216)) }
+        ensures kept { IfNone result (pass.new ≡ pass.old) }
+    {
+        self.live
+            .lock(&self.rt)
+            .call(&self.table, &self.bank, pass, call)
+    }
+
+    // Makes the pass's next call. It waits until the published list begins with all that the pass has seen or learnt.
+    fn call(&self, pass: &mut Pass<J>, call: &Call) -> Reply
+        ensures called { HasCalled call.now result pass.old pass.new }
+        ensures size { IfSome result.packet (λ packet. length packet ≤ 9216) }
+    {
+        for _ in self.rt.forever() {
+            if let Some(reply) = self.try_call(pass, call) {
+                return reply;
+            }
+            yield_now();
+        }
+        unreachable!()
+    }
+
+    // Hands on what the pass's last packet gives to controllers.
+    fn hand_on(&self, pass: &Pass<J>) {
+        self.deliver(pass.worker.receiver(), &pass.verdict, 0);
+    }
+
+    /// Makes the pass's next call, and answers its reply, of whose notices it has those for the caller; the others wait for their lanes.
+    /// What the call did is published then, and the packet that it makes enter is run without the lock, by the pass's own worker, which
+    /// has learnt the call. It waits until the published list begins with all that the pass has seen or learnt, which is so at once.
+    pub fn ask(&self, pass: &mut Pass<J>, call: &Call) -> Reply
+        ensures asked { IsAsked J.start.cpu call.now result pass.old pass.new }
+    {
+        let reply = self.call(pass, call);
+        pass.follow(&self.rt, self.alloc, &self.bank, &reply.packet);
+        if reply.packet.is_some() {
+            self.hand_on(pass);
+        }
+        reply
+    }
+
+    /// What the pass has seen or learnt, for other passes and for the workers of this desk.
+    pub fn tell(&self, pass: &Pass<J>) -> DeskTold<J>
+        ensures { result ≡ pass.now.worker.told }
+    {
+        DeskTold::new(pass.told().again())
+    }
+
+    /// The pass learns what was told at this desk: the lists of its later calls begin with it.
+    pub fn learn(&self, pass: &mut Pass<J>, told: &DeskTold<J>)
+        ensures one { (pass.new.worker.told ≡ pass.old.worker.told) ⊎ (pass.new.worker.told ≡ told.now) }
+        ensures own { Begins pass.old.worker.told pass.new.worker.told }
+        ensures learnt { Begins told.now pass.new.worker.told }
+        ensures others { pass.new ≡ record pass.old { worker = record pass.old.worker { told = pass.new.worker.told } } }
+    {
+        pass.learn(told);
+    }
+
+    /// Hands on what a worker's packet gives to controllers, at a moment in nanoseconds: packets to the lane, where that has a session,
+    /// and a sample to the lists of its digest. What finds no memory or no room is dropped. Where there is nothing to hand on, it takes
+    /// no lock.
+    pub fn deliver(&self, receiver: Option<u16>, verdict: &Verdict, now: u64) {
+        let handed = Handed::of(self.alloc, verdict);
+        if handed.is_nothing() {
+            return;
+        }
+        self.live.lock(&self.rt).deliver(receiver, handed, now);
+    }
+
+    // Gives what waits for the pass's lane at the desk, from which the pass learns.
+    fn next_mail(&self, pass: &mut Pass<J>, now: u64) -> Option<Next>
+        ensures mail { IfSome result IsMail }
+        ensures learnt { HasLearnt pass.old pass.new }
+    {
+        let lane = pass.lane();
+        let (next, told) = self.live.lock(&self.rt).next(lane, now)?;
+        if let Some(told) = told {
+            pass.learn(&told);
+        }
+        Some(next)
+    }
+
+    /// Gives the oldest of what the pass's own packets made leave. Where nothing of that waits, it gives what waits longest for the
+    /// pass's lane at a moment in nanoseconds: a notice makes the pass learn the call that made it.
+    pub fn next(&self, pass: &mut Pass<J>, now: u64) -> Option<Next>
+        ensures { IsGiven pass.old.waiting result pass.old pass.new }
+    {
+        if let Some(output) = pass.next_output() {
+            return Some(Next::Output(output));
+        }
+        self.next_mail(pass, now)
+    }
+}
