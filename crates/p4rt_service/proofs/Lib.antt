@@ -4,3 +4,4 @@ pub mod Cuts
 pub mod Asking
 pub mod Pieces
 pub mod Services
+pub mod Lanes

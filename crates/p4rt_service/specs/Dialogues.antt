@@ -1,7 +1,8 @@
 -- Dialogues with a desk: calls are made one after another, and what comes next hangs on each reply.
-use Rattle.std.specs.Prelude.{◌≡◌, List, [], ◌∷◌, Result, Ok, Err}
+use Rattle.std.specs.Prelude.{◌≡◌, Bool, true, false, List, [], ◌∷◌, Result, Ok, Err}
 use Rattle.list_types.specs.declared.memory.NoMemory.{NoMemory}
 use Rattle.p4_types.specs.declared.calls.Call.{Call}
+use Rattle.p4_types.specs.declared.calls.Call.TheVariants as calls_of
 use Rattle.p4_types.specs.declared.calls.Reply.{Reply}
 
 -- what is done to its end, or up to a call and on from its reply
@@ -59,3 +60,17 @@ pub record Begun {P X : Type 0} (answers : P → Call → Reply → P → Type 0
 abbrev pub Holds : {P X A : Type 0} → (P → Call → Reply → P → Type 0) → P → P → Result A NoMemory → Dialogue X → X → Type 0
 Holds answers old new (Ok a) dialogue end = Held answers old new dialogue end
 Holds answers old new (Err e) dialogue end = Begun answers old new dialogue
+
+-- Whether the controller is still to leave behind a call: a message of its channel makes it so, a Leave ends it, and others leave it as it was.
+abbrev pub leaves_behind : Call → Bool → Bool
+leaves_behind calls_of.Leave before = false
+leaves_behind (calls_of.Stream message) before = true
+leaves_behind call before = before
+
+-- how a call and its reply change a pass, and whether the controller is still to leave
+abbrev pub noting : {P : Type 0} → (P → Call → Reply → P → Type 0) → P × Bool → Call → Reply → P × Bool → Type 0
+noting answers old call reply new = answers old.0 call reply new.0 × (new.1 ≡ leaves_behind call old.1)
+
+-- The same dialogue, in which that is noted.
+abbrev pub Notes : {P X A : Type 0} → (P → Call → Reply → P → Type 0) → P → P → Bool → Bool → Result A NoMemory → Dialogue X → X → Type 0
+Notes answers old new before after result dialogue end = Holds (noting answers) (old, before) (new, after) result dialogue end

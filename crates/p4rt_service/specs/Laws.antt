@@ -20,3 +20,7 @@ SentBefore = (turn : Turn) (sent : List ℕ) (served : Served) → ◌≡◌ {A 
 abbrev pub Determined : Type 0
 Determined = (dialogue : Dialogue Served) (one two : List Exchange) (end other : Served) → Runs dialogue one end → Runs dialogue two other
     → map (λ exchange. exchange.reply) one ≡ map (λ exchange. exchange.reply) two → (one ≡ two) × (end ≡ other)
+
+-- A link stays that of its lane.
+abbrev pub LaneStays : Type 0
+LaneStays = (turns : List Turn) (served end : Served) (exchanges : List Exchange) → Runs (turns_served turns served) exchanges end → end.link.lane ≡ served.link.lane

@@ -11,7 +11,9 @@ use Rattle.grpc_streams.specs.declared.event.GrpcRefusal.TheVariants as refusals
 use Rattle.grpc_streams.specs.Taking.{no_calls}
 use Rattle.grpc_streams.specs.Spelling.{refusal_spelled, channel_of}
 use Rattle.p4rt_service.specs.declared.link.Link.{Link}
-use Rattle.p4rt_service.specs.Dialogues.{Dialogue, Ends, ◌>>=◌, each, Held, Begun}
+use Rattle.p4rt_service.specs.declared.standing.Standing.{Standing}
+use Rattle.p4rt_service.specs.declared.standing.Standing.TheVariants as standings
+use Rattle.p4rt_service.specs.Dialogues.{Dialogue, Ends, ◌>>=◌, each, Held, Begun, noting}
 use Rattle.p4rt_service.specs.Serving.{spelled, delivered, is_open, left_where, byte_taken}
 
 -- a link, and the bytes that were sent on it
@@ -74,20 +76,37 @@ turns_served turns served = each turn_served turns served
 abbrev pub untold : Link → Served
 untold link = record { link = link; sent = [] }
 
--- What is sent in a turn, in which calls may be made, is what the definition says. Without memory the service is lost, and each later call finds none either; the calls that were made then are the first of the turn.
-abbrev pub Serves : {P : Type 0} → (P → Call → Reply → P → Type 0) → P → P → Result (List ℕ) NoMemory → Option Link → Option Link → Turn → Type 0
-Serves answers before after (Ok sent) (Some old) (Some new) turn = Held answers before after (turn_served turn (untold old)) (record { link = new; sent = sent })
-Serves answers before after (Ok sent) (Some old) None turn = ⊥
-Serves answers before after (Ok sent) None new turn = ⊥
-Serves answers before after (Err e) (Some old) new turn = (new ≡ None) × Begun answers before after (turn_served turn (untold old))
-Serves answers before after (Err e) None new turn = (new ≡ None) × (after ≡ before)
+-- A turn is held to its end, with these bytes sent, or, for want of memory, begun; whether the controller is still to leave is noted.
+abbrev pub NotesSent : {P : Type 0} → (P → Call → Reply → P → Type 0) → P → P → Bool → Bool → Result (List ℕ) NoMemory → Dialogue Served → Link → Type 0
+NotesSent answers old new before after (Ok sent) dialogue link = Held (noting answers) (old, before) (new, after) dialogue (record { link = link; sent = sent })
+NotesSent answers old new before after (Err e) dialogue link = Begun (noting answers) (old, before) (new, after) dialogue
+
+-- memory was missing
+abbrev pub IsLost : Standing → Type 0
+IsLost (standings.Serving link) = ⊥
+IsLost (standings.Lost due) = Unit {0}
+
+-- the link is taken out, where there is one
+abbrev pub TakesLink : Option Link → Standing → Standing → Type 0
+TakesLink (Some link) old new = old ≡ standings.Serving link
+TakesLink None old new = IsLost old × (new ≡ old)
+
+-- What is sent in a turn, in which calls may be made, is what the definition says. Without memory the service is lost, and each later call finds none either: the calls that were made are the first of the turn, and the controller is still to leave where its channel was open and those calls do not end with its Leave, or where they open it.
+abbrev pub Serves : {P : Type 0} → (P → Call → Reply → P → Type 0) → P → P → Result (List ℕ) NoMemory → Standing → Standing → Turn → Type 0
+Serves answers before after (Ok sent) (standings.Serving old) (standings.Serving new) turn = Held answers before after (turn_served turn (untold old)) (record { link = new; sent = sent })
+Serves answers before after (Ok sent) (standings.Serving old) (standings.Lost due) turn = ⊥
+Serves answers before after (Ok sent) (standings.Lost due) new turn = ⊥
+Serves answers before after (Err e) (standings.Serving old) (standings.Serving new) turn = ⊥
+Serves answers before after (Err e) (standings.Serving old) (standings.Lost due) turn = Begun (noting answers) (before, is_open old) (after, due) (turn_served turn (untold old))
+Serves answers before after (Err e) (standings.Lost due) new turn = (new ≡ standings.Lost due) × (after ≡ before)
 
 -- The same of a message for the channel, for which no call is made.
-abbrev pub Delivers : Result (List ℕ) NoMemory → Option Link → Option Link → StreamMessageResponse → Type 0
-Delivers (Ok sent) (Some old) (Some new) message = ◌≡◌ {A = Served} (record { link = new; sent = sent }) (message_served message (untold old))
-Delivers (Ok sent) (Some old) None message = ⊥
-Delivers (Ok sent) None new message = ⊥
-Delivers (Err e) old new message = new ≡ None
+abbrev pub Delivers : Result (List ℕ) NoMemory → Standing → Standing → StreamMessageResponse → Type 0
+Delivers (Ok sent) (standings.Serving old) (standings.Serving new) message = ◌≡◌ {A = Served} (record { link = new; sent = sent }) (message_served message (untold old))
+Delivers (Ok sent) (standings.Serving old) (standings.Lost due) message = ⊥
+Delivers (Ok sent) (standings.Lost due) new message = ⊥
+Delivers (Err e) (standings.Serving old) new message = new ≡ standings.Lost (is_open old)
+Delivers (Err e) (standings.Lost due) new message = new ≡ standings.Lost due
 
 -- the bytes of an answer that also tells the code of a breach
 abbrev pub sent_of : Result (List ℕ × Option H2Code) NoMemory → Result (List ℕ) NoMemory
@@ -95,11 +114,11 @@ sent_of (Ok x) = Ok x.0
 sent_of (Err e) = Err e
 
 -- the code of the breach that has ended the connection, if one has
-abbrev pub breach_of : Option Link → Option H2Code
-breach_of None = None
-breach_of (Some link) = code_of link.conn
+abbrev pub breach_of : Standing → Option H2Code
+breach_of (standings.Lost due) = None
+breach_of (standings.Serving link) = code_of link.conn
 
--- the channel is open
-abbrev pub has_channel : Option Link → Bool
-has_channel None = false
-has_channel (Some link) = is_open link
+-- the controller is still to leave: its channel is open, or was where memory was missing
+abbrev pub is_to_leave : Standing → Bool
+is_to_leave (standings.Lost due) = due
+is_to_leave (standings.Serving link) = is_open link

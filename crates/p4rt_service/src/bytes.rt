@@ -1,5 +1,5 @@
 //! What pieces of a client's bytes do, and what is sent meanwhile.
-ghost use Rattle.p4rt_service.specs.Dialogues.{each, Holds};
+ghost use Rattle.p4rt_service.specs.Dialogues.{each, Notes};
 ghost use Rattle.p4rt_service.specs.Turns.{byte_served, piece_served};
 
 use crate::desk::Desk;
@@ -16,13 +16,14 @@ fn serve_byte<D: Desk>(
     sent: &mut ByteList,
     desk: &D,
     pass: &mut D::Pass,
+    due: &mut bool,
 ) -> Result<(), NoMemory>
     requires { D.is_of desk.now pass.old }
     ensures of { D.is_of desk.now pass.new }
-    ensures held { Holds D.answers pass.old pass.new result (byte_served byte (record { link = link.old; sent = sent.old })) (record { link = link.new; sent = sent.new }) }
+    ensures held { Notes D.answers pass.old pass.new due.old due.new result (byte_served byte (record { link = link.old; sent = sent.old })) (record { link = link.new; sent = sent.new }) }
 {
     flush(alloc, link, sent)?;
-    take_byte(alloc, byte, link, desk, pass)
+    take_byte(alloc, byte, link, desk, pass, due)
 }
 
 fn serve_bytes<D: Desk>(
@@ -32,13 +33,14 @@ fn serve_bytes<D: Desk>(
     sent: &mut ByteList,
     desk: &D,
     pass: &mut D::Pass,
+    due: &mut bool,
 ) -> Result<(), NoMemory>
     requires { D.is_of desk.now pass.old }
     ensures of { D.is_of desk.now pass.new }
-    ensures held { Holds D.answers pass.old pass.new result (each byte_served piece.now (record { link = link.old; sent = sent.old })) (record { link = link.new; sent = sent.new }) }
+    ensures held { Notes D.answers pass.old pass.new due.old due.new result (each byte_served piece.now (record { link = link.old; sent = sent.old })) (record { link = link.new; sent = sent.new }) }
 {
     for byte in piece {
-        serve_byte(alloc, *byte, link, sent, desk, pass)?;
+        serve_byte(alloc, *byte, link, sent, desk, pass, due)?;
     }
     Ok(())
 }
@@ -51,11 +53,12 @@ pub(crate) fn serve_piece<D: Desk>(
     sent: &mut ByteList,
     desk: &D,
     pass: &mut D::Pass,
+    due: &mut bool,
 ) -> Result<(), NoMemory>
     requires { D.is_of desk.now pass.old }
     ensures of { D.is_of desk.now pass.new }
-    ensures held { Holds D.answers pass.old pass.new result (piece_served piece.now (record { link = link.old; sent = sent.old })) (record { link = link.new; sent = sent.new }) }
+    ensures held { Notes D.answers pass.old pass.new due.old due.new result (piece_served piece.now (record { link = link.old; sent = sent.old })) (record { link = link.new; sent = sent.new }) }
 {
-    serve_bytes(alloc, piece, link, sent, desk, pass)?;
+    serve_bytes(alloc, piece, link, sent, desk, pass, due)?;
     flush(alloc, link, sent)
 }

@@ -1,7 +1,7 @@
 //! What events of the connection do.
 ghost use Rattle.std.specs.Prelude.{◌≡◌, OnOk, IfOk};
 ghost use Rattle.h2_conn.specs.Bytes.{next};
-ghost use Rattle.p4rt_service.specs.Dialogues.{each, Holds};
+ghost use Rattle.p4rt_service.specs.Dialogues.{each, Notes};
 ghost use Rattle.p4rt_service.specs.Serving.{calls_after, given_by, event_taken, byte_taken};
 
 use crate::answering::serve_events;
@@ -26,13 +26,14 @@ fn take_event<D: Desk>(
     link: &mut Link,
     desk: &D,
     pass: &mut D::Pass,
+    due: &mut bool,
 ) -> Result<(), NoMemory>
     requires { D.is_of desk.now pass.old }
     ensures of { D.is_of desk.now pass.new }
-    ensures held { Holds D.answers pass.old pass.new result (event_taken event link.old) link.new }
+    ensures held { Notes D.answers pass.old pass.new due.old due.new result (event_taken event link.old) link.new }
 {
     let events = give(alloc, event, link)?;
-    serve_events(alloc, events, link, desk, pass)
+    serve_events(alloc, events, link, desk, pass, due)
 }
 
 fn take_events<D: Desk>(
@@ -41,13 +42,14 @@ fn take_events<D: Desk>(
     link: &mut Link,
     desk: &D,
     pass: &mut D::Pass,
+    due: &mut bool,
 ) -> Result<(), NoMemory>
     requires { D.is_of desk.now pass.old }
     ensures of { D.is_of desk.now pass.new }
-    ensures held { Holds D.answers pass.old pass.new result (each event_taken events link.old) link.new }
+    ensures held { Notes D.answers pass.old pass.new due.old due.new result (each event_taken events link.old) link.new }
 {
     for event in events.into_vec() {
-        take_event(alloc, event, link, desk, pass)?;
+        take_event(alloc, event, link, desk, pass, due)?;
     }
     Ok(())
 }
@@ -68,11 +70,12 @@ pub(crate) fn take_byte<D: Desk>(
     link: &mut Link,
     desk: &D,
     pass: &mut D::Pass,
+    due: &mut bool,
 ) -> Result<(), NoMemory>
     requires { D.is_of desk.now pass.old }
     ensures of { D.is_of desk.now pass.new }
-    ensures held { Holds D.answers pass.old pass.new result (byte_taken byte link.old) link.new }
+    ensures held { Notes D.answers pass.old pass.new due.old due.new result (byte_taken byte link.old) link.new }
 {
     let events = read_byte(alloc, byte, link)?;
-    take_events(alloc, events, link, desk, pass)
+    take_events(alloc, events, link, desk, pass, due)
 }

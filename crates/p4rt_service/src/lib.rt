@@ -9,7 +9,9 @@ mod events;
 pub mod laws;
 mod link;
 mod service;
+mod standing;
 
 pub use desk::{Desk, Next};
 pub use link::Link;
 pub use service::Service;
+pub use standing::Standing;

@@ -7,6 +7,9 @@ use row_lines::say;
 use std::alloc::Global;
 use std::collections::VecDeque;
 
+/// The lane of each pass.
+pub const LANE: u16 = 3;
+
 /// The desk of rows.
 pub struct RowDesk;
 
@@ -33,11 +36,17 @@ fn word_of(call: &Call) -> &'static str {
 impl Desk for RowDesk {
     type Pass = RowPass;
 
+    ghost lane_of = { λ pass. 3 };
+
     ghost is_of = { λ desk pass. Unit {0} };
 
     ghost answers = { λ old call reply new. Unit {0} };
 
     ghost gives = { λ old now next new. Unit {0} };
+
+    fn lane(&self, _pass: &RowPass) -> u16 {
+        LANE
+    }
 
     fn ask(&self, alloc: Global, pass: &mut RowPass, call: &Call) -> Reply {
         say(&mut pass.told, word_of(call));

@@ -7,9 +7,6 @@ use row_lines::{NoAnswer, say, tell_hex};
 use std::alloc::Global;
 use std::collections::VecDeque;
 
-// The lane of the service.
-const LANE: u16 = 3;
-
 // Tells the calls that were made since, of which `-` are none, and what was sent.
 fn tell_sent(alloc: Global, pass: &mut RowPass, sent: &ByteList, out: &mut String) {
     if pass.told.is_empty() {
@@ -110,11 +107,11 @@ pub fn answer(
     let [steps] = asked else {
         return Err(NoAnswer);
     };
-    let mut service = Service::open(alloc, LANE)?;
     let mut pass = RowPass {
         replies: VecDeque::new(alloc),
         told: String::new(alloc),
     };
+    let mut service = Service::open(alloc, &RowDesk, &pass)?;
     for word in steps.split(' ') {
         step(alloc, &mut service, &mut pass, word, out)?;
     }
