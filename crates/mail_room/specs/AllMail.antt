@@ -74,6 +74,10 @@ module _ {T : Type 0} where
   packet_in mail None packet live = mail
   packet_in mail (Some lane) packet live = if list_any (λ other. other == lane) live then sent_to mail lane (Packet packet) else mail
 
+  -- packets for the controller of a lane, one after another
+  abbrev pub packets_to : ℕ → MailState T → List PacketIn → MailState T
+  packets_to lane mail packets = fold (λ before packet. sent_to before lane (Packet packet)) mail packets
+
   -- a list of a digest goes to the primary, or nowhere without one
   abbrev pub list_to : MailState T → Option ℕ → Option DigestList → MailState T
   list_to mail primary None = mail

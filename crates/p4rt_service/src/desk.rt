@@ -3,23 +3,11 @@ ghost use Rattle.std.specs.Prelude as spec;
 ghost use Rattle.std.specs.Prelude.{◌≡◌};
 ghost use Rattle.p4_types.specs.declared.calls.Call as call;
 ghost use Rattle.p4_types.specs.declared.calls.Reply as reply;
-ghost use Rattle.p4rt_service.specs.declared.desk.Next as next;
+ghost use Rattle.mail_room.specs.declared.next.Next as next;
 
+use mail_room::Next;
 use p4_types::calls::{Call, Reply};
-use p4_types::messages::StreamMessageResponse;
-use p4_types::records::Output;
 use std::alloc::Global;
-
-/// What waits for a lane.
-#[derive(Drop)]
-pub enum Next {
-    /// A message for its stream channel.
-    Message(StreamMessageResponse),
-    /// A packet of its own, which leaves at a port.
-    Output(Output),
-    /// More messages came than may wait, and none that came since is kept: the channel is to be closed.
-    Overflow,
-}
 
 /// What answers the calls of lanes, of which each has a pass. Many lanes may ask at once; a desk may wait, and owns what
 /// waiting needs.

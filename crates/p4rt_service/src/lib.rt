@@ -11,7 +11,8 @@ mod link;
 mod service;
 mod standing;
 
-pub use desk::{Desk, Next};
+pub use desk::Desk;
 pub use link::Link;
+pub use mail_room::Next;
 pub use service::Service;
 pub use standing::Standing;

@@ -1,0 +1,4 @@
+pub mod CodeLaws
+pub mod DoingLaws
+pub mod CourseLaws
+pub mod StepLaws

@@ -1,0 +1,4 @@
+pub mod Doings
+pub mod Courses
+pub mod Steps
+pub mod Lists
