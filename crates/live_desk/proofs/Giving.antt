@@ -1,11 +1,16 @@
 -- What a pass is given next.
-use Rattle.std.proofs.Common.{◌≡◌, List, [], ◌∷◌, drop, Option, Some, None, IfSome, ap, sym, subst, ◌∙◌}
-use Rattle.std.specs.Prelude.{slice_get}
+use Rattle.std.proofs.Common.{◌≡◌, ◌⊎◌, ℕ, List, [], ◌∷◌, drop, Option, Some, None, IfSome, ap, sym, subst, ◌∙◌}
+use Rattle.std.specs.Prelude.{slice_get, ◌≢◌}
+use Rattle.live_desk.specs.Mailing.{Living, mail_lane}
 use Rattle.live_desk.specs.Passing.{HasLearnt, IsGiven, IsNoOutput, Passing}
+use Rattle.mail_room.specs.AllMail.{Gives, MailState, missed, ticked}
 use Rattle.mail_room.specs.Boxes.{IsMail}
 use Rattle.mail_room.specs.declared.next.Next.{Next}
 use Rattle.mail_room.specs.declared.next.Next.TheVariants as nexts
 use Rattle.p4_types.specs.declared.records.Output.{Output}
+use Rattle.pub_snap.specs.Beginnings.{Beginning}
+use Rattle.snap_worker.specs.Working.{state_after}
+use Rattle.switch_spec.specs.Meaning.{receiver}
 
 abbrev as_next : Option Output → Option Next
 as_next None = None
@@ -33,3 +38,15 @@ given_mail [] next before between after is none same mail learnt =
     let as_before : between ≡ before = same ∙ ap (with_waiting before) (sym is) in
     (mail_is_no_output next mail, subst (λ (p : Passing). HasLearnt p after) as_before learnt)
 given_mail (oldest ∷ others) next before between after is none same mail learnt = absurd (cc none)
+
+-- what waits longest for a lane was given, behind the lists that were due, of which one goes to this lane
+abbrev IsNext : Living → Option ℕ → ℕ → ℕ → Option (Next × Option Beginning) → MailState Beginning → Type 0
+IsNext living primary moment lane given after =
+    Gives (ticked living.mail primary moment) lane given after ⊎ ((living.mail.lists ≢ []) × Gives (missed living.mail) lane given after)
+
+-- the same, where what stands behind the lock is seen, and the lane is that of the primary of role 0
+pub given_next : (now inside : Living) (primary : Option ℕ) (moment lane : ℕ) (given : Option (Next × Option Beginning)) (after : MailState Beginning)
+    → now ≡ inside → primary ≡ mail_lane (receiver (state_after inside.locking.told)) → IsNext inside primary moment lane given after
+    → IsNext now (mail_lane (receiver (state_after now.locking.told))) moment lane given after
+given_next now inside primary moment lane given after same is next =
+    subst (λ (l : Living). IsNext l (mail_lane (receiver (state_after l.locking.told))) moment lane given after) (sym same) (subst (λ (p : Option ℕ). IsNext inside p moment lane given after) is next)

@@ -1,20 +1,24 @@
 -- What a call and a packet give to controllers at a desk that serves (this project's profile).
-use Rattle.std.specs.Prelude.{◌≡◌, ℕ, nat_lt, ◌&&◌, not, if◌then◌else◌, Bool, true, false, List, [], Option, Some, None, is_some}
+use Rattle.std.specs.Prelude.{◌≡◌, ℕ, nat_lt, ◌&&◌, not, if◌then◌else◌, Bool, true, false, List, [], Option, Some, None, is_some, Result, Ok, Err}
 use Rattle.digest_lists.specs.Fold.{set_to}
 use Rattle.live_desk.specs.Locked.{Locking}
 use Rattle.live_desk.specs.Passing.{HasFollowed, IsCalled, Passing}
-use Rattle.mail_room.specs.AllMail.{MailState, own_notices, posted, with_box, with_lists}
+use Rattle.list_types.specs.declared.memory.NoMemory.{NoMemory}
+use Rattle.mail_room.specs.AllMail.{IsDoneOrMissed, MailState, missed, own_notices, packets_to, posted, sampled, with_box, with_lists}
 use Rattle.mail_room.specs.Boxes.{empty_box}
 use Rattle.p4_types.specs.declared.calls.Call.{Call}
 use Rattle.p4_types.specs.declared.calls.Call.TheVariants as calls
 use Rattle.p4_types.specs.declared.calls.Reply.{Reply}
 use Rattle.p4_types.specs.declared.code.Code.{Code}
 use Rattle.p4_types.specs.declared.messages.DigestEntry.{DigestEntry}
+use Rattle.p4_types.specs.declared.messages.PacketIn.{PacketIn}
+use Rattle.p4_types.specs.declared.records.Sample.{Sample}
 use Rattle.plane_spec.specs.Planes.{Control, Plane}
 use Rattle.pub_snap.specs.Beginnings.{Beginning}
 use Rattle.role_arbiter.specs.State.{session_in}
 use Rattle.snap_worker.specs.Working.{state_after}
 use Rattle.switch_spec.specs.History.{is_unavailable}
+use Rattle.switch_spec.specs.Meaning.{receiver}
 
 -- what stands behind the lock of a desk that serves
 pub record Living : Type 0 where
@@ -59,6 +63,34 @@ settled entries lane call reply told mail = with_digests entries (emptied (is_le
 -- the reply as its caller is given it: of its notices it has those for the caller
 abbrev pub reply_to : ℕ → Reply → Reply
 reply_to lane reply = record reply { notices = own_notices lane reply.notices }
+
+-- the lane, where it has a session and may have mail
+abbrev pub live_lane : Control → Option ℕ → Option ℕ
+live_lane c None = None
+live_lane c (Some lane) = if is_live c lane then Some lane else None
+
+-- packets wait for a lane, if there is one
+abbrev pub packets_for : Option ℕ → List PacketIn → MailState Beginning → MailState Beginning
+packets_for None packets mail = mail
+packets_for (Some lane) packets mail = packets_to lane mail packets
+
+-- Packets for the controller of a lane, which gets them where it has a session and may have mail; where memory was missing for them, that
+-- is counted.
+abbrev pub packets_given : Control → Option ℕ → Result (List PacketIn) NoMemory → MailState Beginning → MailState Beginning
+packets_given c to (Ok packets) mail = packets_for (live_lane c to) packets mail
+packets_given c to (Err e) mail = missed mail
+
+-- A sample, if there is one, is taken to the lists of its digest, of which one that is due goes to the primary of role 0; where memory was
+-- missing for it, that is counted, and nothing else changes.
+abbrev pub IsSampled : Control → Result (Option Sample) NoMemory → ℕ → MailState Beginning → MailState Beginning → Type 0
+IsSampled c (Ok None) now before after = after ≡ before
+IsSampled c (Ok (Some sample)) now before after = (done : Bool) × IsDoneOrMissed done before (sampled before (mail_lane (receiver c)) sample.digest sample.content now) after
+IsSampled c (Err e) now before after = after ≡ missed before
+
+-- whether there are no packets and no sample
+abbrev pub is_nothing : Result (List PacketIn) NoMemory → Result (Option Sample) NoMemory → Bool
+is_nothing (Ok []) (Ok None) = true
+is_nothing _ _ = false
 
 -- the pass made a call, and this is shown of its reply
 pub record HasCalled (call : Call) (shown : Reply) (before after : Passing) : Type 0 where

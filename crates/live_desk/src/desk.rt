@@ -1,13 +1,14 @@
 //! The desk at which callers make their calls.
 ghost use Rattle.std.specs.Prelude.{◌≡◌, ◌⊎◌, ◌≤◌, length, IfSome, IfNone};
 ghost use Rattle.live_desk.specs.Mailing.{HasCalled, IsAsked};
-ghost use Rattle.live_desk.specs.Passing.{HasLearnt, IsGiven};
+ghost use Rattle.live_desk.specs.Passing.{HasLearnt, HasRun, IsGiven};
 ghost use Rattle.mail_room.specs.Boxes.{IsMail};
 ghost use Rattle.plane_spec.specs.Entries.{slot_limit};
 ghost use Rattle.pub_snap.specs.Beginnings.{Begins};
 
 use crate::call_steps::CallSteps;
 use crate::desk_told::DeskTold;
+use crate::desk_worker::DeskWorker;
 use crate::handed::Handed;
 use crate::live::Live;
 use crate::naming::Naming;
@@ -136,6 +137,15 @@ impl<J: Naming, R: Wait + Drop> LiveDesk<J, R> {
         ensures others { pass.new ≡ record pass.old { worker = record pass.old.worker { told = pass.new.worker.told } } }
     {
         pass.learn(told);
+    }
+
+    /// Runs a packet, of at most 9,216 bytes, that enters at a port, by a worker of this desk. It waits until there is a snapshot to run
+    /// it on, and takes no lock and no memory.
+    pub fn run(&self, worker: &mut DeskWorker<J>, port: u16, packet: &[u8], verdict: &mut Verdict)
+        requires { length packet.now ≤ 9216 }
+        ensures { HasRun port packet.now worker.old worker.new verdict.new }
+    {
+        worker.run(&self.rt, &self.bank, port, packet, verdict);
     }
 
     /// Hands on what a worker's packet gives to controllers, at a moment in nanoseconds: packets to the lane, where that has a session,

@@ -14,6 +14,7 @@ pub struct Handed {
 
 impl Handed {
     ghost use Rattle.std.specs.Prelude.{◌≡◌, IfOk};
+    ghost use Rattle.live_desk.specs.Mailing.{is_nothing};
 
     /// What a verdict gives to controllers.
     pub fn of(alloc: Global, verdict: &Verdict) -> Handed
@@ -26,8 +27,10 @@ impl Handed {
         }
     }
 
-    /// Whether there is nothing to be given.
-    pub fn is_nothing(&self) -> bool {
+    /// Whether there is nothing to be given, and no want of memory.
+    pub fn is_nothing(&self) -> bool
+        ensures { result ≡ is_nothing self.now.packets self.now.sample }
+    {
         match (&self.packets, &self.sample) {
             (Ok(packets), Ok(None)) => packets.is_empty(),
             _ => false,

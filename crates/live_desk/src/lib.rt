@@ -5,6 +5,7 @@
 mod call_steps;
 mod desk;
 mod desk_told;
+mod desk_worker;
 mod finish;
 mod handed;
 pub mod laws;
@@ -22,6 +23,7 @@ mod running;
 pub use call_steps::CallSteps;
 pub use desk::LiveDesk;
 pub use desk_told::DeskTold;
+pub use desk_worker::DeskWorker;
 pub use finish::ClosedDesk;
 pub use handed::Handed;
 pub use naming::Naming;

@@ -1,8 +1,8 @@
 //! What stands behind the lock of a desk that serves: the control of the switch with its published list, and what waits for controllers.
-ghost use Rattle.std.specs.Prelude.{◌≡◌, ◌<◌, ◌≤◌, length, max, IfNone, IfSome};
+ghost use Rattle.std.specs.Prelude.{◌≡◌, ◌≢◌, ◌⊎◌, ◌<◌, ◌≤◌, [], length, max, IfNone, IfSome};
 ghost use Rattle.live_desk.specs.Locked.{Locking};
-ghost use Rattle.live_desk.specs.Mailing.{IsAnswered, entries_of, is_left, is_live, mail_lane, reply_to, settled};
-ghost use Rattle.mail_room.specs.AllMail.{IsLaneIfAny};
+ghost use Rattle.live_desk.specs.Mailing.{IsAnswered, IsSampled, entries_of, is_left, live_lane, mail_lane, packets_given, reply_to, settled};
+ghost use Rattle.mail_room.specs.AllMail.{Gives, IsLaneIfAny, missed, ticked};
 ghost use Rattle.mail_room.specs.Boxes.{IsMail};
 ghost use Rattle.plane_spec.specs.Entries.{slot_limit};
 ghost use Rattle.snap_worker.specs.Working.{state_after};
@@ -130,26 +130,27 @@ impl<J: Naming, R: Wait + Drop> Live<J, R> {
         }
     }
 
-    // Gives a packet to the controller of a lane, where that has a session.
-    fn deliver_packet(&mut self, receiver: Option<u16>, packet: PacketIn)
-        ensures locking { self.new.locking ≡ self.old.locking }
+    // The lane, where it has a session and may have mail.
+    fn live_lane(&self, to: Option<u16>) -> Option<u16>
+        ensures live { result ≡ live_lane (state_after self.now.locking.told) to }
+        ensures lane { IsLaneIfAny result }
     {
-        let Some(lane) = receiver else {
-            return;
-        };
-        if usize::from(lane) < LANE_LIMIT && self.locked.roles().session(lane).is_some() {
-            self.mail.deliver_packet(Some(lane), packet, &[lane]);
+        match to {
+            Some(lane)
+                if usize::from(lane) < LANE_LIMIT && self.locked.roles().session(lane).is_some() =>
+                { Some(lane) }
+            _ => None,
         }
     }
 
     // Gives packets to the controller of a lane, in their order. What found no memory is counted.
-    fn deliver_packets(&mut self, receiver: Option<u16>, packets: Result<List<PacketIn>, NoMemory>)
-        ensures locking { self.new.locking ≡ self.old.locking }
+    fn deliver_packets(&mut self, to: Option<u16>, packets: Result<List<PacketIn>, NoMemory>)
+        ensures { self.new ≡ record self.old { mail = packets_given (state_after self.old.locking.told) to packets self.old.mail } }
     {
         match packets {
             Ok(packets) => {
-                for packet in packets.into_vec() {
-                    self.deliver_packet(receiver, packet);
+                if let Some(lane) = self.live_lane(to) {
+                    self.mail.deliver_packets(lane, packets);
                 }
             }
             Err(NoMemory) => self.mail.count_unstored(),
@@ -158,7 +159,8 @@ impl<J: Naming, R: Wait + Drop> Live<J, R> {
 
     // Gives a sample to the lists of its digest. What found no memory is counted.
     fn deliver_sample(&mut self, sample: Result<Option<Sample>, NoMemory>)
-        ensures locking { self.new.locking ≡ self.old.locking }
+        ensures mail { IsSampled (state_after self.old.locking.told) sample self.old.moment self.old.mail self.new.mail }
+        ensures others { self.new ≡ record self.old { mail = self.new.mail } }
     {
         match sample {
             Ok(None) => {}
@@ -174,12 +176,14 @@ impl<J: Naming, R: Wait + Drop> Live<J, R> {
 
     /// Hands on what a packet gives to controllers, at a moment in nanoseconds or later: packets to the lane, where that has a session,
     /// and a sample to the lists of its digest, of which one that is due goes to the primary of role 0.
-    pub fn deliver(&mut self, receiver: Option<u16>, handed: Handed, now: u64)
-        ensures { self.new.locking ≡ self.old.locking }
+    pub fn deliver(&mut self, to: Option<u16>, handed: Handed, now: u64)
+        ensures mail { IsSampled (state_after self.old.locking.told) handed.sample self.new.moment (packets_given (state_after self.old.locking.told) to handed.packets self.old.mail) self.new.mail }
+        ensures moment { self.new.moment ≡ max self.old.moment now }
+        ensures locking { self.new.locking ≡ self.old.locking }
     {
         let Handed { packets, sample } = handed;
         self.moment = self.moment.max(now);
-        self.deliver_packets(receiver, packets);
+        self.deliver_packets(to, packets);
         self.deliver_sample(sample);
     }
 
@@ -187,7 +191,10 @@ impl<J: Naming, R: Wait + Drop> Live<J, R> {
     /// digests that are due go to the primary of role 0 before.
     pub fn next(&mut self, lane: u16, now: u64) -> Option<(Next, Option<DeskTold<J>>)>
         requires lane { lane < 32 }
+        ensures given { Gives (ticked self.old.mail (mail_lane (receiver (state_after self.old.locking.told))) self.new.moment) lane result self.new.mail
+            ⊎ ((self.old.mail.lists ≢ []) × Gives (missed self.old.mail) lane result self.new.mail) }
         ensures mail { IfSome result (λ given. IsMail given.0) }
+        ensures moment { self.new.moment ≡ max self.old.moment now }
         ensures locking { self.new.locking ≡ self.old.locking }
     {
         self.moment = self.moment.max(now);
@@ -195,7 +202,7 @@ impl<J: Naming, R: Wait + Drop> Live<J, R> {
         self.mail.next(lane, primary, self.moment)
     }
 
-    /// What is published, and the seat of all calls.
+    /// The control with its published list. What waits for controllers is dropped.
     pub fn into_locked(self) -> Locked<J, R>
         ensures { result ≡ self.locking }
     {

@@ -8,6 +8,7 @@ ghost use Rattle.plane_spec.specs.Entries.{slot_limit};
 
 use crate::call_steps::CallSteps;
 use crate::desk::LiveDesk;
+use crate::desk_worker::DeskWorker;
 use crate::live::Live;
 use crate::locked::Locked;
 use crate::naming::Naming;
@@ -20,12 +21,11 @@ use list_types::NoMemory;
 use mail_room::Mail;
 use p4_types::events::Start;
 use pub_snap::{Publisher, Viewer};
-use snap_worker::Worker;
 use std::alloc::Global;
 use std::sync::Wait;
 
 /// The passes of a desk, the highest lane first, and its workers.
-pub type Callers<J> = (Vec<Pass<J>>, Vec<Worker>);
+pub type Callers<J> = (Vec<Pass<J>>, Vec<DeskWorker<J>>);
 
 // The passes of all lanes, and the workers that are left.
 fn seat_callers<J: Naming>(

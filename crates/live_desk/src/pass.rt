@@ -6,6 +6,7 @@ ghost use Rattle.pub_snap.specs.Beginnings.{Begins};
 
 use crate::call_steps::CallSteps;
 use crate::desk_told::DeskTold;
+use crate::desk_worker::DeskWorker;
 use crate::naming::Naming;
 use crate::running::{keep_outputs, run_at_last};
 use counter_bank::Bank;
@@ -68,20 +69,18 @@ impl<J: Naming> Pass<J> {
         lane: u16,
         cpu: u16,
         seat: LaneSeat<CallSteps>,
-        worker: Worker,
+        worker: DeskWorker<J>,
     ) -> Result<Pass<J>, NoMemory>
         requires table { seat.table ≡ J.table }
         requires number { seat.number ≡ lane }
         requires lane { lane < 32 }
         requires cpu { cpu ≡ J.start.cpu }
         requires nothing { seat.entries ≡ [] }
-        requires list { worker.told.list ≡ J.list }
-        requires start { worker.told.start ≡ J.start }
         requires events { worker.told.events ≡ [] }
-        requires bank { worker.seat.bank ≡ J.bank }
         ensures { IfOk result (λ pass. pass ≡ record { lane = lane; calls = 0; last = worker.told; worker = worker; waiting = [] }) }
     {
         let verdict = Verdict::open(alloc)?;
+        let worker = worker.into_worker();
         let last = worker.told().again();
         Ok(Pass {
             lane,

@@ -6,6 +6,7 @@ ghost use Rattle.lane_table.specs.Lanes.{seats_from};
 ghost use Rattle.live_desk.specs.Opening.{IsFresh, IsNew, SeesStart, lanes_below, without_parts};
 
 use crate::call_steps::CallSteps;
+use crate::desk_worker::DeskWorker;
 use crate::naming::Naming;
 use crate::pass::Pass;
 use counter_bank::{Bank, Seat};
@@ -21,7 +22,7 @@ pub(crate) fn open_workers<J: Naming>(
     bank: &Bank,
     rest: &mut Seat,
     viewers: Vec<Viewer>,
-) -> Result<Vec<Worker>, NoMemory>
+) -> Result<Vec<DeskWorker<J>>, NoMemory>
     requires bank { bank.now.id ≡ J.bank }
     requires rest { rest.old ≡ first_seat J.bank }
     requires few { length viewers.items ≤ 64 }
@@ -34,7 +35,7 @@ pub(crate) fn open_workers<J: Naming>(
     for viewer in viewers {
         let seat = bank.split(rest);
         let worker = Worker::open(alloc, viewer, seat)?;
-        workers.push_reserved(worker);
+        workers.push_reserved(DeskWorker::new(worker));
     }
     Ok(workers)
 }
@@ -56,7 +57,7 @@ fn next_pass<J: Naming>(
     lane: u16,
     cpu: u16,
     places: &mut Vec<LaneSeat<CallSteps>>,
-    workers: &mut Vec<Worker>,
+    workers: &mut Vec<DeskWorker<J>>,
 ) -> Result<Pass<J>, NoMemory>
     requires lane { lane < 32 }
     requires cpu { cpu ≡ J.start.cpu }
@@ -79,7 +80,7 @@ pub(crate) fn open_passes<J: Naming>(
     alloc: Global,
     cpu: u16,
     places: Vec<LaneSeat<CallSteps>>,
-    workers: &mut Vec<Worker>,
+    workers: &mut Vec<DeskWorker<J>>,
 ) -> Result<Vec<Pass<J>>, NoMemory>
     requires cpu { cpu ≡ J.start.cpu }
     requires places { places.items ≡ seats_from J.table 32 }

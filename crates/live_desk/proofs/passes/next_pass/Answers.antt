@@ -18,17 +18,8 @@ open-requires-clause-number g c = ap (λ (l : Lane CallSteps). l.number) (place_
 pub open-requires-clause-nothing : goal.open-requires-clause-nothing
 open-requires-clause-nothing g c = ap (λ (l : Lane CallSteps). l.entries) (place_taken g.J.Naming.table c.args.lane _ _ c.take_last-seat.result c.take_last-seat.ensures.last c.requires.places).1
 
-pub open-requires-clause-list : goal.open-requires-clause-list
-open-requires-clause-list g c = (last_taken (IsFresh g.J.Naming.list g.J.Naming.start g.J.Naming.bank) _ _ c.take_last-worker.result c.take_last-worker.ensures.last c.requires.workers).1.sees.list_is
-
-pub open-requires-clause-start : goal.open-requires-clause-start
-open-requires-clause-start g c = (last_taken (IsFresh g.J.Naming.list g.J.Naming.start g.J.Naming.bank) _ _ c.take_last-worker.result c.take_last-worker.ensures.last c.requires.workers).1.sees.start_is
-
 pub open-requires-clause-events : goal.open-requires-clause-events
 open-requires-clause-events g c = (last_taken (IsFresh g.J.Naming.list g.J.Naming.start g.J.Naming.bank) _ _ c.take_last-worker.result c.take_last-worker.ensures.last c.requires.workers).1.sees.nothing
-
-pub open-requires-clause-bank : goal.open-requires-clause-bank
-open-requires-clause-bank g c = (last_taken (IsFresh g.J.Naming.list g.J.Naming.start g.J.Naming.bank) _ _ c.take_last-worker.result c.take_last-worker.ensures.last c.requires.workers).1.bank_is
 
 pub returns-clause-places : goal.returns-clause-places
 returns-clause-places g c = (place_taken g.J.Naming.table c.args.lane _ _ c.take_last-seat.result c.take_last-seat.ensures.last c.requires.places).0

@@ -1,10 +1,20 @@
-use Rattle.std.proofs.Common.{◌≡◌, ◌+◌, ◌-◌, ◌++◌, ◌∷◌, [], ℕ, List, map, subst, sym, arith}
+use Rattle.std.proofs.Common.{◌≡◌, ◌+◌, ◌-◌, ◌++◌, ◌∷◌, [], ℕ, List, map, refl, ap, subst, sym, arith}
 use Rattle.std.specs.List.{AllByRecursion}
 use Rattle.plane_spec.proofs.Lists.{All-snoc}
 use Rattle.live_desk.proofs.Lasts.{all_lanes, lanes_more}
 use Rattle.live_desk.proofs.passes.open_passes.Goals as goal
 use Rattle.live_desk.specs.Opening.{IsNew, lanes_below}
 use Rattle.live_desk.specs.Passing.{Passing}
+
+pub lanes-init : goal.lanes-init
+lanes-init g c = (
+  omega arith,
+  c.requires.places,
+  c.requires.workers,
+  refl,
+  ap (λ (l : List Passing). map (λ (p : Passing). p.lane) l ++ lanes_below 32) c.new-passes.ensures.items,
+  subst (λ (l : List Passing). AllByRecursion (IsNew g.J.Naming.list g.J.Naming.start g.J.Naming.bank) l) (sym c.new-passes.ensures.items) tt,
+)
 
 pub lanes-preserved : goal.lanes-preserved
 lanes-preserved g c =
