@@ -7,6 +7,7 @@ pub mod UnreadKept
 pub mod WholeFrames
 pub mod StreamBounds
 pub mod Apart
+pub mod Continuations
 pub mod TableBounds
 pub mod Bounded
 pub mod Outcomes

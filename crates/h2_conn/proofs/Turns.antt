@@ -95,6 +95,10 @@ turn conn (byte ∷ second ∷ rest) some (inr both) = together conn byte (secon
 least : (count n : ℕ) → count ≤ n → min count n ≡ count
 least count n le = omega arith
 
+-- the front of a piece is looked at together
+pub turn_of_front : (conn : State) (rest front : List ℕ) (count : ℕ) → count ≤ length rest → front ≡ take count rest → IsTurn conn.greeted (conn.unread ++ take count rest) count → IsTurn conn.greeted (conn.unread ++ front) (length front)
+turn_of_front conn rest front count le ef is = rw (ef, length-take count rest, least count (length rest) le) is
+
 -- the rest of a piece is still to be looked at
 pub record AreRun (whole : Phase × List H2Event) (before : List H2Event) (conn : State) (events : List H2Event) (rest : List ℕ) (n : ℕ) : Type 0 where
   pub ends : (run (phases.Open conn) rest).0 ≡ whole.0
@@ -115,7 +119,7 @@ pub goes_on : (whole : Phase × List H2Event) (before : List H2Event) (conn next
 goes_on whole before conn next events now rest front after n more count given en some le ef ea is taken ew a =
     let long : length front ≡ count = ap length ef ∙ length-take count rest ∙ omega arith in
     let same : rest ≡ front ++ after = sym (ap (λ x. x ++ after) ef ∙ ap (λ x. take count rest ++ x) ea ∙ take-append-drop count rest) in
-    let here : IsTurn conn.greeted (conn.unread ++ front) (length front) = rw (ef, length-take count rest, least count (length rest) le) is in
+    let here = turn_of_front conn rest front count le ef is in
     let step = turn conn front (omega (arith, long)) here ∙ ap (λ t. carried conn.outgoing.output t) taken in
     let parts = split whole before conn events rest front after n (phases.Open next, events_of given) same step a in
     record {
@@ -131,7 +135,7 @@ breaks whole before conn new events rest front after n count refusals.NoMemory s
 breaks whole before conn new events rest front after n count (refusals.For breach) some le ef ea is taken a =
     let long : length front ≡ count = ap length ef ∙ length-take count rest ∙ omega arith in
     let same : rest ≡ front ++ after = sym (ap (λ x. x ++ after) ef ∙ ap (λ x. take count rest ++ x) ea ∙ take-append-drop count rest) in
-    let here : IsTurn conn.greeted (conn.unread ++ front) (length front) = rw (ef, length-take count rest, least count (length rest) le) is in
+    let here = turn_of_front conn rest front count le ef is in
     let out = with_goaway breach conn.outgoing.output in
     let step = turn conn front (omega (arith, long)) here ∙ ap (λ t. carried conn.outgoing.output t) taken.0 in
     let parts = split whole before conn events rest front after n (phases.Broken breach.code out, []) same step a in

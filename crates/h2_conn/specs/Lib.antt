@@ -2,6 +2,7 @@ pub mod Apart
 pub mod Blocks
 pub mod Frames
 pub mod Bytes
+pub mod Continuations
 pub mod Sends
 pub mod History
 pub mod Bounds

@@ -1,24 +1,23 @@
-//! Frames from bytes, however they are cut.
-ghost use Rattle.std.specs.Prelude.{◌≡◌, ◌+◌, ◌≤◌, ◌<◌, ◌++◌, [], true, length, take, drop, MatchOption, OnOk};
+//! Frames from bytes.
+ghost use Rattle.std.specs.Prelude.{◌≡◌, ◌+◌, ◌≤◌, ◌<◌, ◌++◌, [], true, length, take, drop, MatchOption};
 ghost use Rattle.h2_frames.specs.Reading.{head_at};
 ghost use Rattle.h2_conn.specs.Frames.{frame_taken};
-ghost use Rattle.h2_conn.specs.Bytes.{last_stream, settled_by, preface_taken, frame_bytes_taken, waiting_for_more, bytes_taken, events_of, option_list, ends_of, run, Settles, Looks, IsTurn, span, Advances};
-ghost use Rattle.h2_conn.specs.declared.phase.Phase.TheVariants as phases;
+ghost use Rattle.h2_conn.specs.Bytes.{last_stream, settled_by, preface_taken, frame_bytes_taken, waiting_for_more, bytes_taken, Settles, Looks};
 
 use crate::acting::{take_frame, take_gathered_frame};
 use crate::breach::Breach;
-use crate::event::{Given, H2Event, nothing};
+use crate::event::{Given, nothing};
 use crate::state::State;
 use crate::unread::{Unread, head_of};
 use h2_frames::{H2Code, Head};
-use list_types::{List, NoMemory, Refusal};
+use list_types::Refusal;
 use std::alloc::Global;
 
 // The bytes with which a client begins (RFC 9113, section 3.4).
 const PREFACE: &[u8] = b"PRI * HTTP/2.0\r\n\r\nSM\r\n\r\n";
 
-// The longest payload, in bytes.
-const MAX_LENGTH: u32 = 16_384;
+/// The longest payload, in bytes.
+pub(crate) const MAX_LENGTH: u32 = 16_384;
 
 // The bytes of the preface that have come.
 #[tactic(auto, unfolding(crate::specs::Bytes::preface_taken))]
@@ -143,8 +142,8 @@ fn take_frame_kept(alloc: Global, conn: &mut State) -> Result<Given, Refusal<Bre
     take_gathered(alloc, conn, &head, unread)
 }
 
-// The bytes that are kept, once more of them have come.
-fn take_kept(alloc: Global, conn: &mut State) -> Result<Given, Refusal<Breach>>
+/// The bytes that are kept, once more of them have come.
+pub(crate) fn take_kept(alloc: Global, conn: &mut State) -> Result<Given, Refusal<Breach>>
     ensures { Settles result conn.old conn.new (bytes_taken conn.old.unread conn.old) }
 {
     if !conn.greeted {
@@ -153,7 +152,12 @@ fn take_kept(alloc: Global, conn: &mut State) -> Result<Given, Refusal<Breach>>
     take_frame_kept(alloc, conn)
 }
 
-fn take_alone(alloc: Global, conn: &mut State, front: &[u8]) -> Result<Given, Refusal<Breach>>
+/// The front of a piece, where no bytes are kept. A frame that is whole in it is not kept.
+pub(crate) fn take_alone(
+    alloc: Global,
+    conn: &mut State,
+    front: &[u8],
+) -> Result<Given, Refusal<Breach>>
     requires { (conn.old.greeted ≡ true) × (conn.old.unread ≡ []) }
     ensures { Settles result conn.old conn.new (bytes_taken front.now conn.old) }
 {
@@ -164,110 +168,4 @@ fn take_alone(alloc: Global, conn: &mut State, front: &[u8]) -> Result<Given, Re
             Ok(nothing())
         }
     }
-}
-
-// The front of a piece; a frame that is whole in it is not kept.
-fn take_front(alloc: Global, conn: &mut State, front: &[u8]) -> Result<Given, Refusal<Breach>>
-    ensures { Settles result conn.old conn.new (bytes_taken (conn.old.unread ++ front.now) conn.old) }
-{
-    if conn.greeted && conn.unread.is_empty() {
-        return take_alone(alloc, conn, front);
-    }
-    conn.unread.extend_from_slice(front)?;
-    take_kept(alloc, conn)
-}
-
-fn push_event(events: &mut List<H2Event>, event: Option<H2Event>) -> Result<(), NoMemory>
-    ensures { OnOk result (events.new ≡ events.old ++ option_list event) }
-{
-    if let Some(event) = event {
-        events.push(event)?;
-    }
-    Ok(())
-}
-
-fn push_end(events: &mut List<H2Event>, end_of: Option<u32>) -> Result<(), NoMemory>
-    ensures { OnOk result (events.new ≡ events.old ++ ends_of end_of) }
-{
-    if let Some(stream) = end_of {
-        events.push(H2Event::End { stream })?;
-    }
-    Ok(())
-}
-
-// What a frame gave, as events.
-fn give(events: &mut List<H2Event>, given: Given) -> Result<(), NoMemory>
-    ensures { OnOk result (events.new ≡ events.old ++ events_of given) }
-{
-    push_event(events, given.event)?;
-    push_end(events, given.end_of)
-}
-
-// How many bytes of a piece are looked at together, where none are kept: a frame, if its head has
-// come, and else a head.
-fn count_alone(piece: &[u8]) -> usize
-    requires { 0 < length piece.now }
-    ensures { (0 < result) × (result ≤ length piece.now) × (length (take result piece.now) ≤ span (take result piece.now)) }
-{
-    let Some(head) = head_of(piece) else {
-        return piece.len();
-    };
-    if head.length > MAX_LENGTH {
-        return 9;
-    }
-    piece.len().min(9 + head.length as usize)
-}
-
-// The same behind bytes that are kept.
-fn count_behind(kept: &Unread, piece: &[u8]) -> usize
-    requires { 0 < length piece.now }
-    ensures within { (0 < result) × (result ≤ length piece.now) }
-    ensures turn { IsTurn true (kept.now ++ take result piece.now) result }
-{
-    let Some(head) = kept.head() else {
-        return piece.len().min(9 - kept.len());
-    };
-    if head.length > MAX_LENGTH || kept.len() >= 9 + head.length as usize {
-        return 1;
-    }
-    piece.len().min(9 + head.length as usize - kept.len())
-}
-
-fn count_of(conn: &State, piece: &[u8]) -> usize
-    requires { 0 < length piece.now }
-    ensures within { (0 < result) × (result ≤ length piece.now) }
-    ensures turn { IsTurn conn.now.greeted (conn.now.unread ++ take result piece.now) result }
-{
-    if !conn.greeted {
-        return 1;
-    }
-    if conn.unread.is_empty() {
-        return count_alone(piece);
-    }
-    count_behind(&conn.unread, piece)
-}
-
-/// A piece: what it makes of the connection, and the events that it gives.
-pub(crate) fn advance(
-    alloc: Global,
-    conn: &mut State,
-    events: &mut List<H2Event>,
-    piece: &[u8],
-) -> Result<(), Refusal<Breach>>
-    ensures { Advances result conn.new events.old events.new (run (phases.Open conn.old) piece.now) }
-{
-    let mut rest = piece;
-    for _ in 0..piece.len() {
-        if rest.is_empty() {
-            return Ok(());
-        }
-        let count = count_of(conn, rest);
-        let (front, after) = rest.split_at(count);
-        match take_front(alloc, conn, front) {
-            Ok(given) => give(events, given)?,
-            Err(refusal) => return Err(refusal),
-        }
-        rest = after;
-    }
-    Ok(())
 }

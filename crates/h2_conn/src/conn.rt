@@ -2,16 +2,15 @@
 ghost use Rattle.std.specs.Prelude.{◌≡◌, ◌++◌, [], None, OnOk, OnErr, IfOk, IsErr};
 ghost use Rattle.h2_streams.specs.declared.stream.Waiting.TheVariants as waitings;
 ghost use Rattle.h2_conn.specs.Bytes.{with_goaway, run, code_of, opening, output_of, without_output, Feeds};
-ghost use Rattle.h2_conn.specs.Sends.{queued_on, sent, headers_sent, data_sent};
+ghost use Rattle.h2_conn.specs.Sends.{sent, headers_sent, data_sent};
 ghost use Rattle.h2_conn.specs.Frames.{greeting};
-ghost use Rattle.h2_streams.specs.Streams.{stream_at};
 ghost use Rattle.h2_conn.specs.declared.phase.Phase.TheVariants as phases;
 
 use crate::breach::Breach;
-use crate::bytes::advance;
 use crate::event::H2Event;
 use crate::phase::Phase;
-use crate::settings::flush;
+use crate::pieces::advance;
+use crate::receiver::Receiver;
 use crate::state::State;
 use h2_frames::{Frame, H2Code, Setting, write_goaway};
 use h2_streams::{Message, Waiting};
@@ -39,17 +38,21 @@ fn greet(alloc: Global, conn: &mut State) -> Result<(), NoMemory>
 }
 
 // A connection that a breach ends.
-fn ended(alloc: Global, conn: State, breach: Breach) -> Result<Phase, NoMemory>
+fn ended(alloc: Global, conn: Receiver, breach: Breach) -> Result<Phase, NoMemory>
     ensures { IfOk result (λ phase. phase ≡ phases.Broken breach.code (with_goaway breach conn.outgoing.output)) }
 {
     let mut conn = conn;
-    let mut output = conn.outgoing.take_output(alloc);
+    let mut output = conn.take_output(alloc);
     let code = breach.code;
     write_goaway(alloc, breach.last_stream, code.number(), &mut output)?;
     Ok(Phase::Broken { code, output })
 }
 
-fn feed_open(alloc: Global, conn: State, piece: &[u8]) -> Result<(Phase, List<H2Event>), NoMemory>
+fn feed_open(
+    alloc: Global,
+    conn: Receiver,
+    piece: &[u8],
+) -> Result<(Phase, List<H2Event>), NoMemory>
     ensures { IfOk result (λ x. (x.0, x.1) ≡ run (phases.Open conn) piece.now) }
 {
     let mut conn = conn;
@@ -68,27 +71,6 @@ fn code_of(phase: &Phase) -> Option<H2Code>
         Phase::Broken { code, .. } => Some(*code),
         Phase::Open(_) | Phase::OutOfMemory => None,
     }
-}
-
-fn queue_open(
-    alloc: Global,
-    conn: State,
-    number: u32,
-    waiting: Waiting,
-    end_stream: bool,
-) -> Result<State, NoMemory>
-    ensures { IfOk result (λ next. next ≡ queued_on (stream_at number conn.streams) number waiting end_stream conn) }
-{
-    let mut conn = conn;
-    let Some(stream) = conn.streams.get(number) else {
-        return Ok(conn);
-    };
-    if stream.closing {
-        return Ok(conn);
-    }
-    conn.streams.queue(number, waiting, end_stream)?;
-    flush(alloc, &mut conn)?;
-    Ok(conn)
 }
 
 /// The connection of a server. A contract sees whether it goes on, and what it is. Where there is no
@@ -116,7 +98,7 @@ impl Conn {
         let mut state = State::new(alloc);
         greet(alloc, &mut state)?;
         Ok(Conn {
-            phase: Phase::Open(state),
+            phase: Phase::Open(Receiver::new(state)),
         })
     }
 
@@ -125,7 +107,7 @@ impl Conn {
     /// code is answered again, and no event; GOAWAY is the last of what is to be sent. A frame that is
     /// whole in a piece is read where it stands, and one that comes in pieces is gathered. So a payload
     /// is copied once: into its event or the header block, or where it is gathered, which then becomes
-    /// the event or the block. CONTINUATION that comes in pieces is copied once more, behind the block.
+    /// the event or the block. CONTINUATION that comes in pieces is gathered in the block itself.
     pub fn feed(
         &mut self,
         alloc: Global,
@@ -134,8 +116,8 @@ impl Conn {
         ensures { Feeds result self.old self.new piece.now }
     {
         match std::mem::replace(&mut self.phase, Phase::OutOfMemory) {
-            Phase::Open(state) => {
-                let (phase, events) = feed_open(alloc, state, piece)?;
+            Phase::Open(conn) => {
+                let (phase, events) = feed_open(alloc, conn, piece)?;
                 let code = code_of(&phase);
                 self.phase = phase;
                 Ok((events, code))
@@ -161,8 +143,8 @@ impl Conn {
         ensures goes_on { OnErr result (code_of self.old ≡ None) }
     {
         match std::mem::replace(&mut self.phase, Phase::OutOfMemory) {
-            Phase::Open(state) => {
-                let next = queue_open(alloc, state, stream, waiting, end_stream)?;
+            Phase::Open(conn) => {
+                let next = conn.queue(alloc, stream, waiting, end_stream)?;
                 self.phase = Phase::Open(next);
                 Ok(())
             }
@@ -223,7 +205,7 @@ impl Conn {
         ensures left { self.new ≡ without_output self.old }
     {
         match &mut self.phase {
-            Phase::Open(state) => state.outgoing.take_output(alloc),
+            Phase::Open(conn) => conn.take_output(alloc),
             Phase::Broken { output, .. } => std::mem::replace(output, ByteList::new(alloc)),
             Phase::OutOfMemory => ByteList::new(alloc),
         }

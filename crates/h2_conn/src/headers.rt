@@ -141,7 +141,7 @@ fn take_block(alloc: Global, conn: &mut State, block: HeaderBlock) -> Result<Giv
 
 /// A header block so far.
 #[tactic(auto, unfolding(crate::specs::Frames::fragment_taken))]
-fn take_fragment(
+pub(crate) fn take_fragment(
     alloc: Global,
     conn: &mut State,
     end_headers: bool,

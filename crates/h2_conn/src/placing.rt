@@ -20,7 +20,8 @@ fn is_idle(stream: u32, conn: &State) -> bool
     stream % 2 == 0 || conn.greatest < stream
 }
 
-fn breaks_block(head: &Head, block: &Option<HeaderBlock>) -> bool
+/// A frame of this head may not stand where this header block is not whole.
+pub(crate) fn breaks_block(head: &Head, block: &Option<HeaderBlock>) -> bool
     ensures { result ≡ breaks_block head.now block.now }
 {
     match block {

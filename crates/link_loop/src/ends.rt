@@ -10,6 +10,6 @@ pub enum LinkEnd {
     Fault,
     /// The client's bytes broke a rule of HTTP/2, which was answered with this code.
     Refused(H2Code),
-    /// Memory was missing, or as much was done as may be.
+    /// Memory was missing.
     Memory,
 }

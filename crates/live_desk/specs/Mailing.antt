@@ -1,6 +1,6 @@
 -- What a call and a packet give to controllers at a desk that serves (this project's profile).
 use Rattle.std.specs.Prelude.{◌≡◌, ℕ, nat_lt, ◌&&◌, not, if◌then◌else◌, Bool, true, false, List, [], Option, Some, None, is_some, Result, Ok, Err}
-use Rattle.digest_lists.specs.Fold.{set_to}
+use Rattle.digest_lists.specs.Fold.{acknowledge, set_to}
 use Rattle.live_desk.specs.Locked.{Locking}
 use Rattle.live_desk.specs.Passing.{HasFollowed, IsCalled, Passing}
 use Rattle.list_types.specs.declared.memory.NoMemory.{NoMemory}
@@ -10,8 +10,10 @@ use Rattle.p4_types.specs.declared.calls.Call.{Call}
 use Rattle.p4_types.specs.declared.calls.Call.TheVariants as calls
 use Rattle.p4_types.specs.declared.calls.Reply.{Reply}
 use Rattle.p4_types.specs.declared.code.Code.{Code}
+use Rattle.p4_types.specs.declared.code.Code.TheVariants as codes
 use Rattle.p4_types.specs.declared.messages.DigestEntry.{DigestEntry}
 use Rattle.p4_types.specs.declared.messages.PacketIn.{PacketIn}
+use Rattle.p4_types.specs.declared.messages.StreamMessageRequest.TheVariants as requests
 use Rattle.p4_types.specs.declared.records.Sample.{Sample}
 use Rattle.plane_spec.specs.Planes.{Control, Plane}
 use Rattle.pub_snap.specs.Beginnings.{Beginning}
@@ -51,14 +53,25 @@ abbrev pub emptied : Bool → ℕ → MailState Beginning → MailState Beginnin
 emptied true lane mail = with_box mail lane empty_box
 emptied false lane mail = mail
 
+-- the list of a digest that a call with this code acknowledges, if it does
+abbrev pub acknowledged_by : Call → Code → Option (ℕ × ℕ)
+acknowledged_by (calls.Stream (Some (requests.DigestAck ack))) codes.Ok = Some (ack.digest_id, ack.list_id)
+acknowledged_by call code = None
+
+-- the mail once a list was acknowledged, if one was
+abbrev pub acknowledged : Option (ℕ × ℕ) → MailState Beginning → MailState Beginning
+acknowledged None mail = mail
+acknowledged (Some list) mail = with_lists mail (acknowledge mail.lists list.0 list.1)
+
 -- just these digests are set
 abbrev pub with_digests : List DigestEntry → MailState Beginning → MailState Beginning
 with_digests entries mail = with_lists mail (set_to mail.lists entries)
 
--- The mail behind a call: its notices to other lanes wait there with what it has told, what waited for a lane that left is dropped, and
--- just the digests of the active plane are set.
+-- The mail behind a call: its notices to other lanes wait there with what it has told, what waited for a lane that left is dropped, a
+-- list that was acknowledged is, and just the digests of the active plane are set.
 abbrev pub settled : List DigestEntry → ℕ → Call → Reply → Beginning → MailState Beginning → MailState Beginning
-settled entries lane call reply told mail = with_digests entries (emptied (is_left call reply.code) lane (posted lane told mail reply.notices))
+settled entries lane call reply told mail =
+    with_digests entries (acknowledged (acknowledged_by call reply.code) (emptied (is_left call reply.code) lane (posted lane told mail reply.notices)))
 
 -- the reply as its caller is given it: of its notices it has those for the caller
 abbrev pub reply_to : ℕ → Reply → Reply

@@ -1,7 +1,7 @@
 //! What stands behind the lock of a desk that serves: the control of the switch with its published list, and what waits for controllers.
 ghost use Rattle.std.specs.Prelude.{◌≡◌, ◌≢◌, ◌⊎◌, ◌<◌, ◌≤◌, [], length, max, IfNone, IfSome};
 ghost use Rattle.live_desk.specs.Locked.{Locking};
-ghost use Rattle.live_desk.specs.Mailing.{IsAnswered, IsSampled, entries_of, is_left, live_lane, mail_lane, packets_given, reply_to, settled};
+ghost use Rattle.live_desk.specs.Mailing.{IsAnswered, IsSampled, acknowledged_by, entries_of, is_left, live_lane, mail_lane, packets_given, reply_to, settled};
 ghost use Rattle.mail_room.specs.AllMail.{Gives, IsLaneIfAny, missed, ticked};
 ghost use Rattle.mail_room.specs.Boxes.{IsMail};
 ghost use Rattle.plane_spec.specs.Entries.{slot_limit};
@@ -20,7 +20,7 @@ use list_types::{List, NoMemory};
 use mail_room::{LANE_LIMIT, Mail, Next};
 use p4_types::calls::{Call, Reply};
 use p4_types::code::Code;
-use p4_types::messages::PacketIn;
+use p4_types::messages::{PacketIn, StreamMessageRequest};
 use p4_types::records::Sample;
 use pub_snap::Told;
 use std::marker::Model;
@@ -57,6 +57,18 @@ fn is_left(call: &Call, code: Code) -> bool
     }
 }
 
+// The list of a digest that a call with this code acknowledges, if it does.
+fn acknowledged_by(call: &Call, code: Code) -> Option<(u32, u64)>
+    ensures { result ≡ acknowledged_by call.now code }
+{
+    match (call, code) {
+        (Call::Stream(Some(StreamMessageRequest::DigestAck(ack))), Code::Ok) => {
+            Some((ack.digest_id, ack.list_id))
+        }
+        _ => None,
+    }
+}
+
 impl<J: Naming, R: Wait + Drop> Live<J, R> {
     /// No moment was told yet.
     pub fn new(locked: Locked<J, R>, mail: Mail<DeskTold<J>>) -> Live<J, R>
@@ -69,7 +81,7 @@ impl<J: Naming, R: Wait + Drop> Live<J, R> {
         }
     }
 
-    // Gives what a call that was made has for other lanes, and shows its reply to its caller.
+    // Gives what a call that was made has for other lanes, notes what it acknowledges, and shows its reply to its caller.
     fn settle(&mut self, lane: u16, call: &Call, told: &DeskTold<J>, reply: Reply) -> Reply
         requires lane { lane < 32 }
         ensures shown { result ≡ reply_to lane reply }
@@ -86,6 +98,9 @@ impl<J: Naming, R: Wait + Drop> Live<J, R> {
         let notices = self.mail.post(lane, told, notices);
         if is_left(call, code) {
             self.mail.clear(lane);
+        }
+        if let Some((digest, list)) = acknowledged_by(call, code) {
+            self.mail.acknowledge(digest, list);
         }
         self.mail.set_digests(self.locked.digests());
         Reply {

@@ -62,7 +62,7 @@ packet_in_send = search (crosses, sendable) depth 60 fits 20000
 packet_out_send : IsSend (PacketOut.the_field).row
 packet_out_send = search (crosses, sendable) depth 60 fits 20000
 
-data_send : IsSend (P4Data.the_field).row
+pub data_send : IsSend (P4Data.the_field).row
 data_send = search (crosses, sendable) depth 60 fits 20000
 
 digest_send : IsSend (DigestList.the_field).row
@@ -77,7 +77,7 @@ details_send = search (packet_out_send, any_send, crosses, sendable) depth 60 fi
 stream_error_send : IsSend (StreamError.the_field).row
 stream_error_send = search (details_send, crosses, sendable) depth 60 fits 20000
 
-response_send : IsSend (StreamMessageResponse.the_field).row
+pub response_send : IsSend (StreamMessageResponse.the_field).row
 response_send = search (arbitration_send, packet_in_send, digest_send, idle_send, any_send, stream_error_send, crosses, sendable) depth 60 fits 20000
 
 notice_send : IsSend (Notice.the_field).row
