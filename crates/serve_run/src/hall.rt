@@ -1,0 +1,94 @@
+//! Where the passes wait that serve no link.
+ghost use Rattle.std.specs.Prelude.{◌≡◌, length, IfOk};
+
+use list_types::NoMemory;
+use live_desk::{Naming, Pass};
+use std::alloc::Global;
+use std::sync::{Condvar, Mutex, Wait};
+
+/// How many passes a desk has: one for each lane, 0 to 31.
+const LANES: usize = 32;
+
+// A place for the pass of each lane.
+#[derive(Drop)]
+pub(crate) struct Places<J: Naming> {
+    places: Vec<Option<Pass<J>>>,
+    ghost full: { length places.items ≡ 32 },
+}
+
+// Places where no pass is.
+fn empty_places<J: Naming>(alloc: Global) -> Result<Vec<Option<Pass<J>>>, NoMemory>
+    ensures { IfOk result (λ places. length places.items ≡ 32) }
+{
+    let mut places = Vec::new(alloc);
+    'lanes: while places.len() < LANES {
+        places.push(None)?;
+    }
+    Ok(places)
+}
+
+impl<J: Naming> Places<J> {
+    // The pass of the lowest lane whose place is not empty.
+    fn take(&mut self) -> Option<Pass<J>> {
+        for place in self.places.iter_mut() {
+            if let Some(pass) = place.take() {
+                return Some(pass);
+            }
+        }
+        None
+    }
+
+    // Puts a pass into the place of its lane.
+    fn put(&mut self, pass: Pass<J>) {
+        let lane = usize::from(pass.lane());
+        self.places[lane] = Some(pass);
+    }
+}
+
+/// The passes that serve no link.
+#[derive(Drop)]
+pub(crate) struct Hall<J: Naming> {
+    places: Mutex<Places<J>>,
+    came: Condvar,
+}
+
+impl<J: Naming> Hall<J> {
+    /// With these passes.
+    pub(crate) fn open(alloc: Global, passes: Vec<Pass<J>>) -> Result<Hall<J>, NoMemory> {
+        let mut places = Places {
+            places: empty_places(alloc)?,
+        };
+        for pass in passes {
+            places.put(pass);
+        }
+        Ok(Hall {
+            places: Mutex::new(places),
+            came: Condvar::new(),
+        })
+    }
+
+    /// Takes the pass of the lowest lane that serves no link. It waits until there is one.
+    pub(crate) fn take<W: Wait>(&self, rt: &W) -> Pass<J> {
+        let mut places = self.places.lock(rt);
+        for _ in rt.forever() {
+            if let Some(pass) = places.take() {
+                return pass;
+            }
+            places = self.came.wait(rt, places);
+        }
+        unreachable!()
+    }
+
+    /// Gives a pass back, for the next link.
+    pub(crate) fn give<W: Wait>(&self, rt: &W, pass: Pass<J>) {
+        self.places.lock(rt).put(pass);
+        self.came.notify_one();
+    }
+
+    /// The passes, once no link is served any more.
+    pub(crate) fn into_passes(self) -> Vec<Option<Pass<J>>> {
+        let Hall { places, came: _ } = self;
+        let Places { places } = places.into_inner();
+        places
+    }
+}

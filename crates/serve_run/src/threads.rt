@@ -1,0 +1,134 @@
+//! The threads of a switch that serves.
+ghost use Rattle.std.specs.Prelude.{◌≡◌, ◌≢◌, ◌≤◌};
+ghost use Rattle.sw_edge.specs.Counts.{HasCause, StaysUnless};
+
+use crate::accepting::{Came, next_link};
+use crate::ending::ServeEnd;
+use crate::sharing::{Caller, Carrier, Shared, carry_packets, serve_caller};
+use live_desk::{DeskWorker, Naming};
+use std::sync::Wait;
+use std::thread::{Scope, Threads, scope, scope_env};
+use sw_edge::{Clock, Net, Opened};
+
+// Takes links as they come, each with the pass of the lowest lane that serves none and on a thread of its own, until the net ends or
+// fails. Where no thread can be made, the link is served here.
+fn take_links<
+    's,
+    'e,
+    J: Naming + Send + Sync,
+    R: Threads + Wait + Drop + Send + Sync,
+    N: Net + Drop,
+    C: Clock + Drop + Send,
+>(threads: &'s Scope<'s, &'e ()>, shared: &'e Shared<J, R, C>, net: &mut N) -> ServeEnd
+where
+    N::Link: 'e,
+    N::Ports: 'e,
+    ensures end { HasCause (N.ends net.old) (N.ends net.new) (result ≡ ServeEnd.Ended) }
+    ensures no_end { StaysUnless (N.ends net.old) (N.ends net.new) (result ≡ ServeEnd.Ended) }
+    ensures failed { HasCause (N.faults net.old) (N.faults net.new) (result ≡ ServeEnd.Fault) }
+    ensures no_fault { StaysUnless (N.faults net.old) (N.faults net.new) (result ≡ ServeEnd.Fault) }
+    ensures served { result ≢ ServeEnd.Memory }
+{
+    for _ in shared.rt.forever() {
+        let pass = shared.hall.take(&shared.rt);
+        match next_link(net) {
+            Came::Link(link, ports) => {
+                let caller = Caller { pass, link, ports };
+                match threads.spawn(move || serve_caller(shared, caller)) {
+                    Ok(thread) => drop(thread),
+                    Err(refused) => (refused.value)(),
+                }
+            }
+            Came::Quiet => shared.hall.give(&shared.rt, pass),
+            Came::End => {
+                shared.hall.give(&shared.rt, pass);
+                return ServeEnd::Ended;
+            }
+            Came::Failed => {
+                shared.hall.give(&shared.rt, pass);
+                return ServeEnd::Fault;
+            }
+        }
+    }
+    unreachable!()
+}
+
+// Takes links beside these workers, each with ports and on a thread of its own. Where no thread can be made, the worker's packets are
+// carried here, behind the last link. In the end the workers are told to stop.
+fn take_links_beside<
+    's,
+    'e,
+    J: Naming + Send + Sync,
+    R: Threads + Wait + Drop + Send + Sync,
+    N: Net + Drop,
+    C: Clock + Drop + Send,
+>(
+    threads: &'s Scope<'s, &'e ()>,
+    shared: &'e Shared<J, R, C>,
+    net: &mut N,
+    workers: Vec<DeskWorker<J>>,
+) -> ServeEnd
+where
+    N::Link: 'e,
+    N::Ports: 'e,
+    ensures end { HasCause (N.ends net.old) (N.ends net.new) (result ≡ ServeEnd.Ended) }
+    ensures no_end { StaysUnless (N.ends net.old) (N.ends net.new) (result ≡ ServeEnd.Ended) }
+    ensures failed { HasCause (N.faults net.old) (N.faults net.new) (result ≡ ServeEnd.Fault) }
+    ensures no_fault { StaysUnless (N.faults net.old) (N.faults net.new) (result ≡ ServeEnd.Fault) }
+    ensures served { result ≢ ServeEnd.Memory }
+{
+    let mut late = Vec::new(shared.alloc);
+    for worker in workers {
+        let Opened::Ports(ports) = net.ports() else {
+            shared.stop.set();
+            return ServeEnd::Fault;
+        };
+        let carrier = Carrier { worker, ports };
+        match threads.spawn(move || carry_packets(shared, carrier)) {
+            Ok(thread) => drop(thread),
+            Err(refused) => {
+                let _ = late.push(refused.value);
+            }
+        }
+    }
+    let end = take_links(threads, shared, net);
+    shared.stop.set();
+    for carry in late {
+        carry();
+    }
+    end
+}
+
+/// Serves the links and ports of a net that listens, with these workers, until the net ends or fails and all threads have ended.
+pub(crate) fn serve_net<
+    'e,
+    J: Naming + Send + Sync,
+    R: Threads + Wait + Drop + Send + Sync,
+    N: Net + Drop,
+    C: Clock + Drop + Send,
+>(shared: &'e Shared<J, R, C>, net: N, workers: Vec<DeskWorker<J>>) -> (N, ServeEnd)
+where
+    N::Link: 'e,
+    N::Ports: 'e,
+    ensures end { HasCause (N.ends net) (N.ends result.0) (result.1 ≡ ServeEnd.Ended) }
+    ensures no_end { StaysUnless (N.ends net) (N.ends result.0) (result.1 ≡ ServeEnd.Ended) }
+    ensures failed { HasCause (N.faults net) (N.faults result.0) (result.1 ≡ ServeEnd.Fault) }
+    ensures no_fault { StaysUnless (N.faults net) (N.faults result.0) (result.1 ≡ ServeEnd.Fault) }
+    ensures served { result.1 ≢ ServeEnd.Memory }
+{
+    scope(
+        scope_env(),
+        &shared.rt,
+        move |threads| -> (N, ServeEnd)
+            ensures end { HasCause (N.ends net) (N.ends result.0) (result.1 ≡ ServeEnd.Ended) }
+            ensures no_end { StaysUnless (N.ends net) (N.ends result.0) (result.1 ≡ ServeEnd.Ended) }
+            ensures failed { HasCause (N.faults net) (N.faults result.0) (result.1 ≡ ServeEnd.Fault) }
+            ensures no_fault { StaysUnless (N.faults net) (N.faults result.0) (result.1 ≡ ServeEnd.Fault) }
+            ensures served { result.1 ≢ ServeEnd.Memory }
+        {
+            let mut net = net;
+            let end = take_links_beside(threads, shared, &mut net, workers);
+            (net, end)
+        },
+    )
+}
