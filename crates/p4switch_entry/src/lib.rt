@@ -6,13 +6,14 @@ ghost use Rattle.std.specs.Process.{exit_status};
 ghost use Rattle.std.specs.Vec.Iter.{into_iter_items};
 ghost use Rattle.p4switch_run.specs.Command.{IsCommand};
 
+use real_net::RealNet;
 use std::alloc::{AllocError, Global};
 use std::env::{self, Args};
 use std::io::ErrorKind;
 use std::process::ExitCode;
 use std::sync::Wait;
 use std::thread::Threads;
-use sw_edge::{MemoryNet, RealClock, RealSink, RealSource};
+use sw_edge::{RealClock, RealSink, RealSource};
 
 // The words behind the program's name.
 fn words_of(alloc: Global, args: Args) -> Result<Vec<String>, AllocError>
@@ -38,12 +39,11 @@ fn texts_of(alloc: Global, words: &[String]) -> Result<Vec<&str>, AllocError>
     Ok(texts)
 }
 
-// The exit status of the program with these words. A net comes with serving.
+// The exit status of the program with these words.
 fn status_of<T: Threads + Wait + Sync>(threads: &T, rt: HostRuntime, words: &[String]) -> u8
     ensures refused { result ≡ 2 → IsCommand (map (λ word. string_bytes word) words.now) → ⊥ }
     ensures command { result ≢ 2 → result ≢ 3 → IsCommand (map (λ word. string_bytes word) words.now) }
     ensures statuses { result ≤ 8 }
-    ensures no_net { result ≢ 7 }
 {
     let alloc = rt.alloc();
     let mut err = RealSink::new(rt.stderr());
@@ -52,12 +52,7 @@ fn status_of<T: Threads + Wait + Sync>(threads: &T, rt: HostRuntime, words: &[St
     };
     let mut tape = RealSource::new(rt.stdin());
     let mut out = RealSink::new(rt.stdout());
-    let mut net = MemoryNet::new(
-        Vec::new(alloc),
-        Vec::new(alloc),
-        Vec::new(alloc),
-        Vec::new(alloc),
-    );
+    let mut net = RealNet::new(&rt);
     let mut clock = RealClock::new(rt);
     p4switch_run::run(
         threads,
@@ -74,7 +69,6 @@ fn status_of<T: Threads + Wait + Sync>(threads: &T, rt: HostRuntime, words: &[St
 /// Runs the program with the words and the streams of the process, and gives the status with which the process is to end.
 pub fn exit_of<T: Threads + Wait + Sync>(threads: &T, rt: HostRuntime) -> ExitCode
     ensures statuses { exit_status result ≤ 8 }
-    ensures no_net { exit_status result ≢ 7 }
 {
     let words = match env::args(&rt) {
         Ok(args) => words_of(rt.alloc(), args),

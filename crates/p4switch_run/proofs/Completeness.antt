@@ -58,6 +58,7 @@ complete statuses.ReadFault mode start old new ends holds reads writes = absurd 
 complete statuses.WriteFault mode start old new ends holds reads writes = absurd (writes ends.fault)
 complete statuses.TooLong mode start old new ends holds reads writes =
     let read = ends.«because».1 in absurd (not_refused old.left new.left _ _ faults.TooLong holds reads read.taken read.from.consumed read.answers)
+complete statuses.NetFault mode start old new ends holds reads writes = absurd ends
 complete statuses.Refused mode start old new ends holds reads writes = absurd ends
 
 past_within : (bytes taken : List ℕ) → length taken ≤ length bytes → length bytes ≤ 67108864 → EndsWithin AtLimit taken → ⊥
@@ -75,4 +76,5 @@ checked statuses.WriteFault old new ends holds reads writes = absurd (writes end
 checked statuses.TooLong old new ends holds reads writes =
     let P : Option (List ℕ) → Type 0 = λ l. Consumes l new.left ends.«because».taken in
     absurd (past_within holds.bytes ends.«because».taken (taken_within holds.bytes new.left ends.«because».taken (subst P holds.left_is ends.«because».consumed)) holds.size ends.«because».within)
+checked statuses.NetFault old new ends holds reads writes = absurd ends
 checked statuses.Refused old new ends holds reads writes = inr (inr refl)

@@ -1,7 +1,7 @@
 -- What the exit status of a run says, from what its job says of its answer.
-use Rattle.std.proofs.Common.{◌≡◌, ◌≢◌, ℕ, ◌<◌, ◌≤◌, List, length, Option, None, Some, refl, ap, ◌∙◌, sym, subst, ◌⊎◌, inl, inr, arith}
-use Rattle.sw_edge.specs.Counts.{Rose}
-use Rattle.sw_edge.specs.Told.{Keeps}
+use Rattle.std.proofs.Common.{◌≡◌, ◌≢◌, ℕ, ◌<◌, ◌≤◌, List, [], length, Option, None, Some, refl, ap, ◌∙◌, sym, subst, ◌⊎◌, inl, inr, arith}
+use Rattle.sw_edge.specs.Counts.{HasCause, Rose}
+use Rattle.sw_edge.specs.Told.{Consumes, Keeps}
 use Rattle.p4_types.specs.declared.events.Start.{Start}
 use Rattle.tape_form.proofs.Judging as judging
 use Rattle.tape_form.specs.TapeRead.{EndsWithin, IsTooLong, IsUnfinished}
@@ -13,33 +13,56 @@ use Rattle.p4switch_run.specs.declared.status.Status.TheVariants as statuses
 use Rattle.p4switch_run.specs.declared.words.Job.{Job}
 use Rattle.p4switch_run.specs.declared.words.Job.TheVariants as jobs
 use Rattle.p4switch_run.specs.declared.words.Mode.{Mode}
-use Rattle.p4switch_run.specs.Command.{IsReplay, IsCheck, IsCommand, status_number}
-use Rattle.p4switch_run.specs.Replay.{Streams, LacksMemory}
-use Rattle.p4switch_run.specs.Run.{EndsBy, Reports, Breaks, Approves, BreaksLine, IsUnread, Misreads, Stops, Rejects, Lines, IsTold, NamesPlace, HoldsTape, HoldsBytes}
+use Rattle.p4switch_run.specs.Command.{IsReplay, IsCheck, IsCommand, IsServe, status_number}
+use Rattle.p4switch_run.specs.Replay.{Streams, Answers, LacksMemory}
+use Rattle.p4switch_run.specs.Run.{EndsBy, IsServeStatus, IsUnusedBy, NetBy, Reports, Serves, Breaks, Approves, BreaksLine, IsUnread, Misreads, Stops, Rejects, Lines, IsTold, NamesPlace, HoldsTape, HoldsBytes}
 use Rattle.p4switch_run.specs.Words.{command_of, built}
 use Rattle.p4switch_run.proofs.Completeness as completeness
+use Rattle.p4switch_run.specs.Check.{Checks}
+use Rattle.serve_run.specs.declared.opening.Serving.{Serving}
 
 unlike : (n : ℕ) (status : Status) → status ≡ statuses.WordsRefused → status_number status ≡ n → n ≢ 2 → ⊥
 unlike n status is e not = not (sym e ∙ ap status_number is)
 
-pub reports : (o : Option Job) (status : Status) (words : List (List ℕ)) (old new : Streams) → built (command_of words) ≡ o → EndsBy o status old new → status_number status ≡ 0 → Reports words old new ⊎ Approves words old new
-reports None status words old new is ends e = absurd (unlike 0 status ends.0 e (λ x. omega (arith, x)))
-reports (Some (jobs.Replay mode start)) statuses.Done words old new is ends e = inl (record { mode = mode; start = start; command = is; written = ends })
-reports (Some (jobs.Replay mode start)) (statuses.NotATape place) words old new is ends e = absurd (omega (arith, e))
-reports (Some (jobs.Replay mode start)) statuses.WordsRefused words old new is ends e = absurd (omega (arith, e))
-reports (Some (jobs.Replay mode start)) statuses.NoMemory words old new is ends e = absurd (omega (arith, e))
-reports (Some (jobs.Replay mode start)) statuses.ReadFault words old new is ends e = absurd (omega (arith, e))
-reports (Some (jobs.Replay mode start)) statuses.WriteFault words old new is ends e = absurd (omega (arith, e))
-reports (Some (jobs.Replay mode start)) statuses.TooLong words old new is ends e = absurd (omega (arith, e))
-reports (Some (jobs.Replay mode start)) statuses.Refused words old new is ends e = absurd (omega (arith, e))
-reports (Some jobs.Check) statuses.Done words old new is ends e = inr (record { command = is; judged = ends })
-reports (Some jobs.Check) (statuses.NotATape place) words old new is ends e = absurd (omega (arith, e))
-reports (Some jobs.Check) statuses.WordsRefused words old new is ends e = absurd (omega (arith, e))
-reports (Some jobs.Check) statuses.NoMemory words old new is ends e = absurd (omega (arith, e))
-reports (Some jobs.Check) statuses.ReadFault words old new is ends e = absurd (omega (arith, e))
-reports (Some jobs.Check) statuses.WriteFault words old new is ends e = absurd (omega (arith, e))
-reports (Some jobs.Check) statuses.TooLong words old new is ends e = absurd (omega (arith, e))
-reports (Some jobs.Check) statuses.Refused words old new is ends e = absurd (omega (arith, e))
+serve_number : (status : Status) → IsServeStatus status → (status_number status ≡ 0) ⊎ ((status_number status ≡ 3) ⊎ (status_number status ≡ 7))
+serve_number status (inl is) = inl (ap status_number is)
+serve_number status (inr (inl is)) = inr (inl (ap status_number is))
+serve_number status (inr (inr is)) = inr (inr (ap status_number is))
+
+served_whole : (status : Status) → IsServeStatus status → status_number status ≡ 0 → status ≡ statuses.Done
+served_whole status (inl is) e = is
+served_whole status (inr (inl is)) e = absurd (omega (arith, sym (ap status_number is) ∙ e))
+served_whole status (inr (inr is)) e = absurd (omega (arith, sym (ap status_number is) ∙ e))
+
+pub reports : (o : Option Job) (status : Status) (words : List (List ℕ)) (old new : Streams) (e0 e1 f0 f1 : ℕ) → built (command_of words) ≡ o → EndsBy o status old new → NetBy o status e0 e1 f0 f1 → status_number status ≡ 0
+    → Reports words old new ⊎ (Approves words old new ⊎ Serves words e0 e1)
+reports None status words old new e0 e1 f0 f1 is ends net e = absurd (unlike 0 status ends.0 e (λ x. omega (arith, x)))
+reports (Some (jobs.Replay mode start)) statuses.Done words old new e0 e1 f0 f1 is ends net e = inl (record { mode = mode; start = start; command = is; written = ends })
+reports (Some (jobs.Replay mode start)) (statuses.NotATape place) words old new e0 e1 f0 f1 is ends net e = absurd (omega (arith, e))
+reports (Some (jobs.Replay mode start)) statuses.WordsRefused words old new e0 e1 f0 f1 is ends net e = absurd (omega (arith, e))
+reports (Some (jobs.Replay mode start)) statuses.NoMemory words old new e0 e1 f0 f1 is ends net e = absurd (omega (arith, e))
+reports (Some (jobs.Replay mode start)) statuses.ReadFault words old new e0 e1 f0 f1 is ends net e = absurd (omega (arith, e))
+reports (Some (jobs.Replay mode start)) statuses.WriteFault words old new e0 e1 f0 f1 is ends net e = absurd (omega (arith, e))
+reports (Some (jobs.Replay mode start)) statuses.TooLong words old new e0 e1 f0 f1 is ends net e = absurd (omega (arith, e))
+reports (Some (jobs.Replay mode start)) statuses.NetFault words old new e0 e1 f0 f1 is ends net e = absurd (omega (arith, e))
+reports (Some (jobs.Replay mode start)) statuses.Refused words old new e0 e1 f0 f1 is ends net e = absurd (omega (arith, e))
+reports (Some jobs.Check) statuses.Done words old new e0 e1 f0 f1 is ends net e = inr (inl (record { command = is; judged = ends }))
+reports (Some jobs.Check) (statuses.NotATape place) words old new e0 e1 f0 f1 is ends net e = absurd (omega (arith, e))
+reports (Some jobs.Check) statuses.WordsRefused words old new e0 e1 f0 f1 is ends net e = absurd (omega (arith, e))
+reports (Some jobs.Check) statuses.NoMemory words old new e0 e1 f0 f1 is ends net e = absurd (omega (arith, e))
+reports (Some jobs.Check) statuses.ReadFault words old new e0 e1 f0 f1 is ends net e = absurd (omega (arith, e))
+reports (Some jobs.Check) statuses.WriteFault words old new e0 e1 f0 f1 is ends net e = absurd (omega (arith, e))
+reports (Some jobs.Check) statuses.TooLong words old new e0 e1 f0 f1 is ends net e = absurd (omega (arith, e))
+reports (Some jobs.Check) statuses.NetFault words old new e0 e1 f0 f1 is ends net e = absurd (omega (arith, e))
+reports (Some jobs.Check) statuses.Refused words old new e0 e1 f0 f1 is ends net e = absurd (omega (arith, e))
+reports (Some (jobs.Serve serving)) status words old new e0 e1 f0 f1 is ends net e = inr (inr (record { command = (serving, is); ended = net.ended.cause (served_whole status ends.0 e) }))
+
+none_of : (o : Option (List ℕ)) → Consumes o o []
+none_of None = tt
+none_of (Some xs) = refl
+
+none_taken : (o : Option (List ℕ)) (faults : ℕ) → IsUnfinished o o faults faults
+none_taken o faults = record { taken = []; consumed = none_of o; within = omega arith; sound = refl }
 
 -- what want of memory leaves unsaid
 unfinished : (old new : Streams) → LacksMemory old new → IsUnfinished old.left new.left old.read_faults new.read_faults
@@ -55,6 +78,7 @@ no_memory (Some (jobs.Replay mode start)) statuses.NoMemory old new ends e = unf
 no_memory (Some (jobs.Replay mode start)) statuses.ReadFault old new ends e = absurd (omega (arith, e))
 no_memory (Some (jobs.Replay mode start)) statuses.WriteFault old new ends e = absurd (omega (arith, e))
 no_memory (Some (jobs.Replay mode start)) statuses.TooLong old new ends e = absurd (omega (arith, e))
+no_memory (Some (jobs.Replay mode start)) statuses.NetFault old new ends e = absurd (omega (arith, e))
 no_memory (Some (jobs.Replay mode start)) statuses.Refused old new ends e = absurd (omega (arith, e))
 no_memory (Some jobs.Check) statuses.Done old new ends e = absurd (omega (arith, e))
 no_memory (Some jobs.Check) (statuses.NotATape place) old new ends e = absurd (omega (arith, e))
@@ -63,7 +87,9 @@ no_memory (Some jobs.Check) statuses.NoMemory old new ends e = ends.«because»
 no_memory (Some jobs.Check) statuses.ReadFault old new ends e = absurd (omega (arith, e))
 no_memory (Some jobs.Check) statuses.WriteFault old new ends e = absurd (omega (arith, e))
 no_memory (Some jobs.Check) statuses.TooLong old new ends e = absurd (omega (arith, e))
+no_memory (Some jobs.Check) statuses.NetFault old new ends e = absurd (omega (arith, e))
 no_memory (Some jobs.Check) statuses.Refused old new ends e = absurd (omega (arith, e))
+no_memory (Some (jobs.Serve serving)) status old new ends e = let P : Streams → Type 0 = λ x. IsUnfinished old.left x.left old.read_faults x.read_faults in subst P (sym ends.1) (none_taken old.left old.read_faults)
 
 pub read_fault : (o : Option Job) (status : Status) (words : List (List ℕ)) (old new : Streams) → built (command_of words) ≡ o → EndsBy o status old new → status_number status ≡ 4 → Rose old.read_faults new.read_faults
 read_fault None status words old new is ends e = absurd (unlike 4 status ends.0 e (λ x. omega (arith, x)))
@@ -74,6 +100,7 @@ read_fault (Some (jobs.Replay mode start)) statuses.NoMemory words old new is en
 read_fault (Some (jobs.Replay mode start)) statuses.ReadFault words old new is ends e = ends.«because».0
 read_fault (Some (jobs.Replay mode start)) statuses.WriteFault words old new is ends e = absurd (omega (arith, e))
 read_fault (Some (jobs.Replay mode start)) statuses.TooLong words old new is ends e = absurd (omega (arith, e))
+read_fault (Some (jobs.Replay mode start)) statuses.NetFault words old new is ends e = absurd (omega (arith, e))
 read_fault (Some (jobs.Replay mode start)) statuses.Refused words old new is ends e = absurd (omega (arith, e))
 read_fault (Some jobs.Check) statuses.Done words old new is ends e = absurd (omega (arith, e))
 read_fault (Some jobs.Check) (statuses.NotATape place) words old new is ends e = absurd (omega (arith, e))
@@ -82,7 +109,9 @@ read_fault (Some jobs.Check) statuses.NoMemory words old new is ends e = absurd 
 read_fault (Some jobs.Check) statuses.ReadFault words old new is ends e = ends.«because».so
 read_fault (Some jobs.Check) statuses.WriteFault words old new is ends e = absurd (omega (arith, e))
 read_fault (Some jobs.Check) statuses.TooLong words old new is ends e = absurd (omega (arith, e))
+read_fault (Some jobs.Check) statuses.NetFault words old new is ends e = absurd (omega (arith, e))
 read_fault (Some jobs.Check) statuses.Refused words old new is ends e = absurd (omega (arith, e))
+read_fault (Some (jobs.Serve serving)) status words old new is ends e = absurd (omega (arith, serve_number status ends.0, e))
 
 pub write_fault : (o : Option Job) (status : Status) (words : List (List ℕ)) (old new : Streams) → built (command_of words) ≡ o → EndsBy o status old new → status_number status ≡ 5 → Breaks words old new ⊎ BreaksLine words old new
 write_fault None status words old new is ends e = absurd (unlike 5 status ends.0 e (λ x. omega (arith, x)))
@@ -93,6 +122,7 @@ write_fault (Some (jobs.Replay mode start)) statuses.NoMemory words old new is e
 write_fault (Some (jobs.Replay mode start)) statuses.ReadFault words old new is ends e = absurd (omega (arith, e))
 write_fault (Some (jobs.Replay mode start)) statuses.WriteFault words old new is ends e = inl (record { mode = mode; start = start; command = is; cut = ends })
 write_fault (Some (jobs.Replay mode start)) statuses.TooLong words old new is ends e = absurd (omega (arith, e))
+write_fault (Some (jobs.Replay mode start)) statuses.NetFault words old new is ends e = absurd (omega (arith, e))
 write_fault (Some (jobs.Replay mode start)) statuses.Refused words old new is ends e = absurd (omega (arith, e))
 write_fault (Some jobs.Check) statuses.Done words old new is ends e = absurd (omega (arith, e))
 write_fault (Some jobs.Check) (statuses.NotATape place) words old new is ends e = absurd (omega (arith, e))
@@ -101,7 +131,9 @@ write_fault (Some jobs.Check) statuses.NoMemory words old new is ends e = absurd
 write_fault (Some jobs.Check) statuses.ReadFault words old new is ends e = absurd (omega (arith, e))
 write_fault (Some jobs.Check) statuses.WriteFault words old new is ends e = inr (record { command = is; short = ends })
 write_fault (Some jobs.Check) statuses.TooLong words old new is ends e = absurd (omega (arith, e))
+write_fault (Some jobs.Check) statuses.NetFault words old new is ends e = absurd (omega (arith, e))
 write_fault (Some jobs.Check) statuses.Refused words old new is ends e = absurd (omega (arith, e))
+write_fault (Some (jobs.Serve serving)) status words old new is ends e = absurd (omega (arith, serve_number status ends.0, e))
 
 past_limit : (taken : List ℕ) → EndsWithin AtLimit taken → MAX_TAPE < length taken
 past_limit taken within = omega (arith, within)
@@ -115,6 +147,7 @@ too_long (Some (jobs.Replay mode start)) statuses.NoMemory words old new is ends
 too_long (Some (jobs.Replay mode start)) statuses.ReadFault words old new is ends e = absurd (omega (arith, e))
 too_long (Some (jobs.Replay mode start)) statuses.WriteFault words old new is ends e = absurd (omega (arith, e))
 too_long (Some (jobs.Replay mode start)) statuses.TooLong words old new is ends e = ends.«because».0
+too_long (Some (jobs.Replay mode start)) statuses.NetFault words old new is ends e = absurd (omega (arith, e))
 too_long (Some (jobs.Replay mode start)) statuses.Refused words old new is ends e = absurd (omega (arith, e))
 too_long (Some jobs.Check) statuses.Done words old new is ends e = absurd (omega (arith, e))
 too_long (Some jobs.Check) (statuses.NotATape place) words old new is ends e = absurd (omega (arith, e))
@@ -123,7 +156,9 @@ too_long (Some jobs.Check) statuses.NoMemory words old new is ends e = absurd (o
 too_long (Some jobs.Check) statuses.ReadFault words old new is ends e = absurd (omega (arith, e))
 too_long (Some jobs.Check) statuses.WriteFault words old new is ends e = absurd (omega (arith, e))
 too_long (Some jobs.Check) statuses.TooLong words old new is ends e = record { taken = ends.«because».taken; consumed = ends.«because».consumed; past = inl (past_limit ends.«because».taken ends.«because».within) }
+too_long (Some jobs.Check) statuses.NetFault words old new is ends e = absurd (omega (arith, e))
 too_long (Some jobs.Check) statuses.Refused words old new is ends e = absurd (omega (arith, e))
+too_long (Some (jobs.Serve serving)) status words old new is ends e = absurd (omega (arith, serve_number status ends.0, e))
 
 pub flawed : (o : Option Job) (status : Status) (words : List (List ℕ)) (old new : Streams) → built (command_of words) ≡ o → EndsBy o status old new → status_number status ≡ 8 → Rejects words old new
 flawed None status words old new is ends e = absurd (unlike 8 status ends.0 e (λ x. omega (arith, x)))
@@ -134,6 +169,7 @@ flawed (Some (jobs.Replay mode start)) statuses.NoMemory words old new is ends e
 flawed (Some (jobs.Replay mode start)) statuses.ReadFault words old new is ends e = absurd (omega (arith, e))
 flawed (Some (jobs.Replay mode start)) statuses.WriteFault words old new is ends e = absurd (omega (arith, e))
 flawed (Some (jobs.Replay mode start)) statuses.TooLong words old new is ends e = absurd (omega (arith, e))
+flawed (Some (jobs.Replay mode start)) statuses.NetFault words old new is ends e = absurd (omega (arith, e))
 flawed (Some (jobs.Replay mode start)) statuses.Refused words old new is ends e = absurd ends
 flawed (Some jobs.Check) statuses.Done words old new is ends e = absurd (omega (arith, e))
 flawed (Some jobs.Check) (statuses.NotATape place) words old new is ends e = absurd (omega (arith, e))
@@ -142,7 +178,9 @@ flawed (Some jobs.Check) statuses.NoMemory words old new is ends e = absurd (ome
 flawed (Some jobs.Check) statuses.ReadFault words old new is ends e = absurd (omega (arith, e))
 flawed (Some jobs.Check) statuses.WriteFault words old new is ends e = absurd (omega (arith, e))
 flawed (Some jobs.Check) statuses.TooLong words old new is ends e = absurd (omega (arith, e))
+flawed (Some jobs.Check) statuses.NetFault words old new is ends e = absurd (omega (arith, e))
 flawed (Some jobs.Check) statuses.Refused words old new is ends e = record { command = is; refused = ends }
+flawed (Some (jobs.Serve serving)) status words old new is ends e = absurd (omega (arith, serve_number status ends.0, e))
 
 pub not_a_tape : (o : Option Job) (status : Status) (lines : Lines) (old new : Streams) → EndsBy o status old new → IsTold lines status → status_number status ≡ 1 → NamesPlace old.left new.left lines
 not_a_tape None status lines old new ends told e = absurd (unlike 1 status ends.0 e (λ x. omega (arith, x)))
@@ -153,6 +191,7 @@ not_a_tape (Some (jobs.Replay mode start)) statuses.NoMemory lines old new ends 
 not_a_tape (Some (jobs.Replay mode start)) statuses.ReadFault lines old new ends told e = absurd (omega (arith, e))
 not_a_tape (Some (jobs.Replay mode start)) statuses.WriteFault lines old new ends told e = absurd (omega (arith, e))
 not_a_tape (Some (jobs.Replay mode start)) statuses.TooLong lines old new ends told e = absurd (omega (arith, e))
+not_a_tape (Some (jobs.Replay mode start)) statuses.NetFault lines old new ends told e = absurd (omega (arith, e))
 not_a_tape (Some (jobs.Replay mode start)) statuses.Refused lines old new ends told e = absurd (omega (arith, e))
 not_a_tape (Some jobs.Check) statuses.Done lines old new ends told e = absurd (omega (arith, e))
 not_a_tape (Some jobs.Check) (statuses.NotATape place) lines old new ends told e = absurd ends
@@ -161,7 +200,9 @@ not_a_tape (Some jobs.Check) statuses.NoMemory lines old new ends told e = absur
 not_a_tape (Some jobs.Check) statuses.ReadFault lines old new ends told e = absurd (omega (arith, e))
 not_a_tape (Some jobs.Check) statuses.WriteFault lines old new ends told e = absurd (omega (arith, e))
 not_a_tape (Some jobs.Check) statuses.TooLong lines old new ends told e = absurd (omega (arith, e))
+not_a_tape (Some jobs.Check) statuses.NetFault lines old new ends told e = absurd (omega (arith, e))
 not_a_tape (Some jobs.Check) statuses.Refused lines old new ends told e = absurd (omega (arith, e))
+not_a_tape (Some (jobs.Serve serving)) status lines old new ends told e = absurd (omega (arith, serve_number status ends.0, e))
 
 no_job : (job : Job) → None ≡ Some job → ⊥
 no_job job e = cc
@@ -175,6 +216,7 @@ refused (Some (jobs.Replay mode start)) statuses.NoMemory words old new is ends 
 refused (Some (jobs.Replay mode start)) statuses.ReadFault words old new is ends e command = omega (arith, e)
 refused (Some (jobs.Replay mode start)) statuses.WriteFault words old new is ends e command = omega (arith, e)
 refused (Some (jobs.Replay mode start)) statuses.TooLong words old new is ends e command = omega (arith, e)
+refused (Some (jobs.Replay mode start)) statuses.NetFault words old new is ends e command = omega (arith, e)
 refused (Some (jobs.Replay mode start)) statuses.Refused words old new is ends e command = omega (arith, e)
 refused (Some jobs.Check) statuses.Done words old new is ends e command = omega (arith, e)
 refused (Some jobs.Check) (statuses.NotATape place) words old new is ends e command = omega (arith, e)
@@ -183,7 +225,9 @@ refused (Some jobs.Check) statuses.NoMemory words old new is ends e command = om
 refused (Some jobs.Check) statuses.ReadFault words old new is ends e command = omega (arith, e)
 refused (Some jobs.Check) statuses.WriteFault words old new is ends e command = omega (arith, e)
 refused (Some jobs.Check) statuses.TooLong words old new is ends e command = omega (arith, e)
+refused (Some jobs.Check) statuses.NetFault words old new is ends e command = omega (arith, e)
 refused (Some jobs.Check) statuses.Refused words old new is ends e command = omega (arith, e)
+refused (Some (jobs.Serve serving)) status words old new is ends e command = omega (arith, serve_number status ends.0, e)
 
 pub untouched : (o : Option Job) (status : Status) (old new : Streams) → EndsBy o status old new → status_number status ≡ 2 → new ≡ old
 untouched None status old new ends e = ends.1
@@ -194,6 +238,7 @@ untouched (Some (jobs.Replay mode start)) statuses.NoMemory old new ends e = abs
 untouched (Some (jobs.Replay mode start)) statuses.ReadFault old new ends e = absurd (omega (arith, e))
 untouched (Some (jobs.Replay mode start)) statuses.WriteFault old new ends e = absurd (omega (arith, e))
 untouched (Some (jobs.Replay mode start)) statuses.TooLong old new ends e = absurd (omega (arith, e))
+untouched (Some (jobs.Replay mode start)) statuses.NetFault old new ends e = absurd (omega (arith, e))
 untouched (Some (jobs.Replay mode start)) statuses.Refused old new ends e = absurd (omega (arith, e))
 untouched (Some jobs.Check) statuses.Done old new ends e = absurd (omega (arith, e))
 untouched (Some jobs.Check) (statuses.NotATape place) old new ends e = absurd (omega (arith, e))
@@ -202,7 +247,9 @@ untouched (Some jobs.Check) statuses.NoMemory old new ends e = absurd (omega (ar
 untouched (Some jobs.Check) statuses.ReadFault old new ends e = absurd (omega (arith, e))
 untouched (Some jobs.Check) statuses.WriteFault old new ends e = absurd (omega (arith, e))
 untouched (Some jobs.Check) statuses.TooLong old new ends e = absurd (omega (arith, e))
+untouched (Some jobs.Check) statuses.NetFault old new ends e = absurd (omega (arith, e))
 untouched (Some jobs.Check) statuses.Refused old new ends e = absurd (omega (arith, e))
+untouched (Some (jobs.Serve serving)) status old new ends e = ends.1
 
 pub command : (o : Option Job) (status : Status) (words : List (List ℕ)) (old new : Streams) → built (command_of words) ≡ o → EndsBy o status old new → status_number status ≢ 2 → IsCommand words
 command None status words old new is ends not = absurd (not (ap status_number ends.0))
@@ -221,6 +268,7 @@ nothing (Some (jobs.Replay mode start)) statuses.NoMemory old new ends a b c = e
 nothing (Some (jobs.Replay mode start)) statuses.ReadFault old new ends a b c = ends.kept
 nothing (Some (jobs.Replay mode start)) statuses.WriteFault old new ends a b c = absurd (b refl)
 nothing (Some (jobs.Replay mode start)) statuses.TooLong old new ends a b c = ends.kept
+nothing (Some (jobs.Replay mode start)) statuses.NetFault old new ends a b c = absurd ends
 nothing (Some (jobs.Replay mode start)) statuses.Refused old new ends a b c = absurd ends
 nothing (Some jobs.Check) statuses.Done old new ends a b c = absurd (a refl)
 nothing (Some jobs.Check) (statuses.NotATape place) old new ends a b c = absurd ends
@@ -229,7 +277,9 @@ nothing (Some jobs.Check) statuses.NoMemory old new ends a b c = ends.kept
 nothing (Some jobs.Check) statuses.ReadFault old new ends a b c = ends.kept
 nothing (Some jobs.Check) statuses.WriteFault old new ends a b c = absurd (b refl)
 nothing (Some jobs.Check) statuses.TooLong old new ends a b c = ends.kept
+nothing (Some jobs.Check) statuses.NetFault old new ends a b c = absurd ends
 nothing (Some jobs.Check) statuses.Refused old new ends a b c = absurd (c refl)
+nothing (Some (jobs.Serve serving)) status old new ends a b c = let P : Streams → Type 0 = λ x. Keeps old.sent x.sent in subst P (sym ends.1) (keeps_same old.sent)
 
 -- a status of what was read whole, or not begun to be read
 abbrev IsOther : ℕ → Type 0
@@ -243,6 +293,9 @@ not_both n (inr (inr c)) other = other.1.1 c
 other_number : (n : ℕ) → (n ≡ 0) ⊎ ((n ≡ 2) ⊎ ((n ≡ 3) ⊎ ((n ≡ 5) ⊎ (n ≡ 8)))) → IsOther n
 other_number n h = (λ e. omega (arith, h, e), (λ e. omega (arith, h, e), λ e. omega (arith, h, e)))
 
+serve_other : (n : ℕ) → (n ≡ 0) ⊎ ((n ≡ 3) ⊎ (n ≡ 7)) → IsOther n
+serve_other n h = (λ e. omega (arith, h, e), (λ e. omega (arith, h, e), λ e. omega (arith, h, e)))
+
 pub first : (o : Option Job) (status : Status) (words : List (List ℕ)) (old new : Streams) → built (command_of words) ≡ o → EndsBy o status old new → IsUnread (status_number status)
     → Misreads (status_number status) words old new ⊎ Stops (status_number status) words old new
 first None status words old new is ends u = absurd (not_both (status_number status) u (other_number (status_number status) (inr (inl (ap status_number ends.0)))))
@@ -253,6 +306,7 @@ first (Some (jobs.Replay mode start)) statuses.NoMemory words old new is ends u 
 first (Some (jobs.Replay mode start)) statuses.ReadFault words old new is ends u = inl (record { mode = mode; start = start; command = is; fault = faults.Fault; number_is = refl; read = ends.«because».1 })
 first (Some (jobs.Replay mode start)) statuses.WriteFault words old new is ends u = absurd (not_both 5 u (other_number 5 (inr (inr (inr (inl refl))))))
 first (Some (jobs.Replay mode start)) statuses.TooLong words old new is ends u = inl (record { mode = mode; start = start; command = is; fault = faults.TooLong; number_is = refl; read = ends.«because».1 })
+first (Some (jobs.Replay mode start)) statuses.NetFault words old new is ends u = absurd ends
 first (Some (jobs.Replay mode start)) statuses.Refused words old new is ends u = absurd (not_both 8 u (other_number 8 (inr (inr (inr (inr refl))))))
 first (Some jobs.Check) statuses.Done words old new is ends u = absurd (not_both 0 u (other_number 0 (inl refl)))
 first (Some jobs.Check) (statuses.NotATape place) words old new is ends u = absurd ends
@@ -261,7 +315,9 @@ first (Some jobs.Check) statuses.NoMemory words old new is ends u = absurd (not_
 first (Some jobs.Check) statuses.ReadFault words old new is ends u = inr (record { command = is; ended = AtFault; status = statuses.ReadFault; ended_is = refl; number_is = refl; read = ends.«because» })
 first (Some jobs.Check) statuses.WriteFault words old new is ends u = absurd (not_both 5 u (other_number 5 (inr (inr (inr (inl refl))))))
 first (Some jobs.Check) statuses.TooLong words old new is ends u = inr (record { command = is; ended = AtLimit; status = statuses.TooLong; ended_is = refl; number_is = refl; read = ends.«because» })
+first (Some jobs.Check) statuses.NetFault words old new is ends u = absurd ends
 first (Some jobs.Check) statuses.Refused words old new is ends u = absurd (not_both 8 u (other_number 8 (inr (inr (inr (inr refl))))))
+first (Some (jobs.Serve serving)) status words old new is ends u = absurd (not_both (status_number status) u (serve_other (status_number status) (serve_number status ends.0)))
 
 pub sound_sink : (o : Option Job) (status : Status) (old new : Streams) → EndsBy o status old new → status_number status ≢ 5 → new.write_faults ≡ old.write_faults
 sound_sink None status old new ends not = ap (λ (x : Streams). x.write_faults) ends.1
@@ -272,6 +328,7 @@ sound_sink (Some (jobs.Replay mode start)) statuses.NoMemory old new ends not = 
 sound_sink (Some (jobs.Replay mode start)) statuses.ReadFault old new ends not = ends.sound_sink
 sound_sink (Some (jobs.Replay mode start)) statuses.WriteFault old new ends not = absurd (not refl)
 sound_sink (Some (jobs.Replay mode start)) statuses.TooLong old new ends not = ends.sound_sink
+sound_sink (Some (jobs.Replay mode start)) statuses.NetFault old new ends not = absurd ends
 sound_sink (Some (jobs.Replay mode start)) statuses.Refused old new ends not = absurd ends
 sound_sink (Some jobs.Check) statuses.Done old new ends not = ends.sound_sink
 sound_sink (Some jobs.Check) (statuses.NotATape place) old new ends not = absurd ends
@@ -280,23 +337,80 @@ sound_sink (Some jobs.Check) statuses.NoMemory old new ends not = ends.sound_sin
 sound_sink (Some jobs.Check) statuses.ReadFault old new ends not = ends.sound_sink
 sound_sink (Some jobs.Check) statuses.WriteFault old new ends not = absurd (not refl)
 sound_sink (Some jobs.Check) statuses.TooLong old new ends not = ends.sound_sink
+sound_sink (Some jobs.Check) statuses.NetFault old new ends not = absurd ends
 sound_sink (Some jobs.Check) statuses.Refused old new ends not = ends.judged.sound_sink
-
-numbers : (status : Status) → (status_number status ≤ 8) × (status_number status ≢ 7)
-numbers statuses.Done = (omega arith, λ e. omega (arith, e))
-numbers (statuses.NotATape place) = (omega arith, λ e. omega (arith, e))
-numbers statuses.WordsRefused = (omega arith, λ e. omega (arith, e))
-numbers statuses.NoMemory = (omega arith, λ e. omega (arith, e))
-numbers statuses.ReadFault = (omega arith, λ e. omega (arith, e))
-numbers statuses.WriteFault = (omega arith, λ e. omega (arith, e))
-numbers statuses.TooLong = (omega arith, λ e. omega (arith, e))
-numbers statuses.Refused = (omega arith, λ e. omega (arith, e))
+sound_sink (Some (jobs.Serve serving)) status old new ends not = ap (λ (x : Streams). x.write_faults) ends.1
 
 pub at_most_8 : (status : Status) → status_number status ≤ 8
-at_most_8 status = (numbers status).0
+at_most_8 statuses.Done = omega arith
+at_most_8 (statuses.NotATape place) = omega arith
+at_most_8 statuses.WordsRefused = omega arith
+at_most_8 statuses.NoMemory = omega arith
+at_most_8 statuses.ReadFault = omega arith
+at_most_8 statuses.WriteFault = omega arith
+at_most_8 statuses.TooLong = omega arith
+at_most_8 statuses.NetFault = omega arith
+at_most_8 statuses.Refused = omega arith
 
-pub never_7 : (status : Status) → status_number status ≢ 7
-never_7 status = (numbers status).1
+is_net_fault : (status : Status) → status_number status ≡ 7 → status ≡ statuses.NetFault
+is_net_fault statuses.Done e = absurd (omega (arith, e))
+is_net_fault (statuses.NotATape place) e = absurd (omega (arith, e))
+is_net_fault statuses.WordsRefused e = absurd (omega (arith, e))
+is_net_fault statuses.NoMemory e = absurd (omega (arith, e))
+is_net_fault statuses.ReadFault e = absurd (omega (arith, e))
+is_net_fault statuses.WriteFault e = absurd (omega (arith, e))
+is_net_fault statuses.TooLong e = absurd (omega (arith, e))
+is_net_fault statuses.NetFault e = refl
+is_net_fault statuses.Refused e = absurd (omega (arith, e))
+
+pub net_fault : (o : Option Job) (status : Status) (old new : Streams) (e0 e1 f0 f1 : ℕ) → EndsBy o status old new → NetBy o status e0 e1 f0 f1 → status_number status ≡ 7 → Rose f0 f1
+net_fault None status old new e0 e1 f0 f1 ends net e = absurd (unlike 7 status ends.0 e (λ x. omega (arith, x)))
+net_fault (Some (jobs.Replay mode start)) status old new e0 e1 f0 f1 ends net e = let P : Status → Type 0 = λ x. Answers mode start x old new in absurd (subst P (is_net_fault status e) ends)
+net_fault (Some jobs.Check) status old new e0 e1 f0 f1 ends net e = let P : Status → Type 0 = λ x. Checks x old new in absurd (subst P (is_net_fault status e) ends)
+net_fault (Some (jobs.Serve serving)) status old new e0 e1 f0 f1 ends net e = net.failed.cause (is_net_fault status e)
+
+pub sound_net : (o : Option Job) (status : Status) (e0 e1 f0 f1 : ℕ) → NetBy o status e0 e1 f0 f1 → status_number status ≢ 7 → f1 ≡ f0
+sound_net None status e0 e1 f0 f1 net not = net.1
+sound_net (Some (jobs.Replay mode start)) status e0 e1 f0 f1 net not = net.1
+sound_net (Some jobs.Check) status e0 e1 f0 f1 net not = net.1
+sound_net (Some (jobs.Serve serving)) status e0 e1 f0 f1 net not = net.no_fault (λ is. not (ap status_number is))
+
+pub unended_net : (o : Option Job) (status : Status) (e0 e1 f0 f1 : ℕ) → NetBy o status e0 e1 f0 f1 → status_number status ≢ 0 → e1 ≡ e0
+unended_net None status e0 e1 f0 f1 net not = net.0
+unended_net (Some (jobs.Replay mode start)) status e0 e1 f0 f1 net not = net.0
+unended_net (Some jobs.Check) status e0 e1 f0 f1 net not = net.0
+unended_net (Some (jobs.Serve serving)) status e0 e1 f0 f1 net not = net.not_ended (λ is. not (ap status_number is))
+
+pub unused : {A : Type 0} (o : Option Job) (words : List (List ℕ)) (old new : A) → built (command_of words) ≡ o → IsUnusedBy o old new → (IsServe words → ⊥) → new ≡ old
+unused None words old new is same not = same
+unused (Some (jobs.Replay mode start)) words old new is same not = same
+unused (Some jobs.Check) words old new is same not = same
+unused (Some (jobs.Serve serving)) words old new is same not = absurd (not (serving, is))
+
+replay_no_serve : (mode : Mode) (start : Start) (serving : Serving) → Some (jobs.Replay mode start) ≡ Some (jobs.Serve serving) → ⊥
+replay_no_serve mode start serving e = cc
+
+check_no_serve : (serving : Serving) → Some jobs.Check ≡ Some (jobs.Serve serving) → ⊥
+check_no_serve serving e = cc
+
+-- serving reads and writes nothing beside its net
+pub left_alone : (o : Option Job) (status : Status) (words : List (List ℕ)) (old new : Streams) → built (command_of words) ≡ o → EndsBy o status old new → IsServe words → new ≡ old
+left_alone None status words old new is ends serves = ends.1
+left_alone (Some (jobs.Replay mode start)) status words old new is ends serves = absurd (replay_no_serve mode start serves.0 (sym is ∙ serves.1))
+left_alone (Some jobs.Check) status words old new is ends serves = absurd (check_no_serve serves.0 (sym is ∙ serves.1))
+left_alone (Some (jobs.Serve serving)) status words old new is ends serves = ends.1
+
+whole_or_no_memory : (status : Status) (f0 f1 : ℕ) → IsServeStatus status → HasCause f0 f1 (status ≡ statuses.NetFault) → (Rose f0 f1 → ⊥) → (status_number status ≡ 0) ⊎ (status_number status ≡ 3)
+whole_or_no_memory status f0 f1 (inl is) failed sound = inl (ap status_number is)
+whole_or_no_memory status f0 f1 (inr (inl is)) failed sound = inr (ap status_number is)
+whole_or_no_memory status f0 f1 (inr (inr is)) failed sound = absurd (sound (failed.cause is))
+
+pub served : (o : Option Job) (status : Status) (words : List (List ℕ)) (old new : Streams) (e0 e1 f0 f1 : ℕ) → built (command_of words) ≡ o → EndsBy o status old new → NetBy o status e0 e1 f0 f1 → IsServe words
+    → (Rose f0 f1 → ⊥) → (status_number status ≡ 0) ⊎ (status_number status ≡ 3)
+served None status words old new e0 e1 f0 f1 is ends net serves sound = absurd (no_job (jobs.Serve serves.0) (sym is ∙ serves.1))
+served (Some (jobs.Replay mode start)) status words old new e0 e1 f0 f1 is ends net serves sound = absurd (replay_no_serve mode start serves.0 (sym is ∙ serves.1))
+served (Some jobs.Check) status words old new e0 e1 f0 f1 is ends net serves sound = absurd (check_no_serve serves.0 (sym is ∙ serves.1))
+served (Some (jobs.Serve serving)) status words old new e0 e1 f0 f1 is ends net serves sound = whole_or_no_memory status f0 f1 ends.0 net.failed sound
 
 other_job : (mode : Mode) (start : Start) → Some jobs.Check ≡ Some (jobs.Replay mode start) → ⊥
 other_job mode start e = cc
@@ -306,9 +420,11 @@ pub complete : (o : Option Job) (status : Status) (words : List (List ℕ)) (old
 complete None status words old new is ends mode start command holds reads writes = absurd (no_job (jobs.Replay mode start) (sym is ∙ command))
 complete (Some (jobs.Replay own other)) status words old new is ends mode start command holds reads writes = completeness.complete status own other old new ends holds reads writes
 complete (Some jobs.Check) status words old new is ends mode start command holds reads writes = absurd (other_job mode start (sym is ∙ command))
+complete (Some (jobs.Serve serving)) status words old new is ends mode start command holds reads writes = absurd (replay_no_serve mode start serving (sym command ∙ is))
 
 pub judged : (o : Option Job) (status : Status) (words : List (List ℕ)) (old new : Streams) → built (command_of words) ≡ o → EndsBy o status old new → IsCheck words → HoldsBytes old.left
     → (Rose old.read_faults new.read_faults → ⊥) → (Rose old.write_faults new.write_faults → ⊥) → (status_number status ≡ 0) ⊎ ((status_number status ≡ 3) ⊎ (status_number status ≡ 8))
 judged None status words old new is ends command holds reads writes = absurd (no_job jobs.Check (sym is ∙ command))
 judged (Some (jobs.Replay mode start)) status words old new is ends command holds reads writes = absurd (other_job mode start (sym command ∙ is))
 judged (Some jobs.Check) status words old new is ends command holds reads writes = completeness.checked status old new ends holds reads writes
+judged (Some (jobs.Serve serving)) status words old new is ends command holds reads writes = absurd (check_no_serve serving (sym command ∙ is))

@@ -8,3 +8,4 @@ pub mod SessionLemmas
 pub mod TallyLemmas
 pub mod TellLemmas
 pub mod Unfinished
+pub mod Serving

@@ -74,6 +74,7 @@ Unread statuses.NoMemory old new before now = IsUnfinished old new before now
 Unread statuses.ReadFault old new before now = IsTakenUp AtFault old new before now
 Unread statuses.WriteFault old new before now = ⊥
 Unread statuses.TooLong old new before now = IsTakenUp AtLimit old new before now
+Unread statuses.NetFault old new before now = ⊥
 Unread statuses.Refused old new before now = ⊥
 
 -- what each answer says; a check is of no tape, and does not refuse words
@@ -85,4 +86,5 @@ Checks statuses.NoMemory old new = Nothing old new (IsUnfinished old.left new.le
 Checks statuses.ReadFault old new = Nothing old new (IsTakenUp AtFault old.left new.left old.read_faults new.read_faults)
 Checks statuses.WriteFault old new = IsJudgedShort old new
 Checks statuses.TooLong old new = Nothing old new (IsTakenUp AtLimit old.left new.left old.read_faults new.read_faults)
+Checks statuses.NetFault old new = ⊥
 Checks statuses.Refused old new = IsRefused old new

@@ -10,6 +10,9 @@ use Rattle.p4switch_run.specs.declared.words.Job.{Job}
 use Rattle.p4switch_run.specs.declared.words.Job.TheVariants as jobs
 use Rattle.p4switch_run.specs.declared.words.Mode.{Mode}
 use Rattle.p4switch_run.specs.Words.{command_of, built}
+use Rattle.serve_run.specs.declared.ending.ServeEnd.{ServeEnd}
+use Rattle.serve_run.specs.declared.ending.ServeEnd.TheVariants as ends
+use Rattle.serve_run.specs.declared.opening.Serving.{Serving}
 
 -- the words, behind the program's name, ask for a replay in this mode that starts so
 abbrev pub IsReplay : Mode → Start → List (List ℕ) → Type 0
@@ -18,6 +21,10 @@ IsReplay mode start words = built (command_of words) ≡ Some (jobs.Replay mode 
 -- the words ask for the check of a configuration
 abbrev pub IsCheck : List (List ℕ) → Type 0
 IsCheck words = built (command_of words) ≡ Some jobs.Check
+
+-- the words ask for serving
+abbrev pub IsServe : List (List ℕ) → Type 0
+IsServe words = (serving : Serving) × (built (command_of words) ≡ Some (jobs.Serve serving))
 
 -- the words are a command that is built
 abbrev pub IsCommand : List (List ℕ) → Type 0
@@ -32,6 +39,7 @@ status_number statuses.NoMemory = 3
 status_number statuses.ReadFault = 4
 status_number statuses.WriteFault = 5
 status_number statuses.TooLong = 6
+status_number statuses.NetFault = 7
 status_number statuses.Refused = 8
 
 -- how a run ends whose tape was not read
@@ -40,6 +48,12 @@ fault_status (faults.Bad place) = statuses.NotATape place
 fault_status faults.TooLong = statuses.TooLong
 fault_status faults.Fault = statuses.ReadFault
 fault_status faults.NoMemory = statuses.NoMemory
+
+-- how a run ends that served
+abbrev pub end_status : ServeEnd → Status
+end_status ends.Ended = statuses.Done
+end_status ends.Fault = statuses.NetFault
+end_status ends.Memory = statuses.NoMemory
 
 -- what is said of it, if anything
 abbrev pub status_line : Status → List ℕ
@@ -50,4 +64,5 @@ status_line statuses.NoMemory = codes "p4switch: no memory\n"
 status_line statuses.ReadFault = codes "p4switch: read fault\n"
 status_line statuses.WriteFault = codes "p4switch: write fault\n"
 status_line statuses.TooLong = codes "p4switch: tape too long\n"
+status_line statuses.NetFault = codes "p4switch: net fault\n"
 status_line statuses.Refused = []

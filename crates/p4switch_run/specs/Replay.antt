@@ -80,6 +80,7 @@ Answers mode start statuses.NoMemory old new = Nothing old new (LacksMemory old 
 Answers mode start statuses.ReadFault old new = Nothing old new (Rose old.read_faults new.read_faults × ReadWith faults.Fault old new)
 Answers mode start statuses.WriteFault old new = IsCutShort mode start old new
 Answers mode start statuses.TooLong old new = Nothing old new (IsTooLong old.left new.left × ReadWith faults.TooLong old new)
+Answers mode start statuses.NetFault old new = ⊥
 Answers mode start statuses.Refused old new = ⊥
 
 -- the text is the report of the run of these records, one after the other

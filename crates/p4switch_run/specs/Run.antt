@@ -2,6 +2,7 @@
 use Rattle.std.specs.Prelude.{◌≡◌, ℕ, ◌≤◌, ◌⊎◌, List, length, Option, None, Some}
 use Rattle.p4_types.specs.declared.events.Start.{Start}
 use Rattle.p4_types.specs.declared.tape.TapeRecord.{TapeRecord}
+use Rattle.sw_edge.specs.Counts.{HasCause, Rose, StaysUnless}
 use Rattle.sw_edge.specs.declared.answers.Sent.{Sent}
 use Rattle.run_spec.specs.Tape.{IsTape}
 use Rattle.tape_form.specs.TapeRead.{IsBadAt}
@@ -13,16 +14,55 @@ use Rattle.p4switch_run.specs.declared.words.Job.{Job}
 use Rattle.p4switch_run.specs.declared.words.Job.TheVariants as jobs
 use Rattle.p4switch_run.specs.declared.words.Mode.{Mode}
 use Rattle.p4switch_run.specs.Check.{Checks, IsJudged, IsJudgedShort, IsRefused, IsTakenUp, ended_status}
-use Rattle.p4switch_run.specs.Command.{IsReplay, IsCheck, status_number, fault_status, status_line}
+use Rattle.p4switch_run.specs.Command.{IsReplay, IsCheck, IsServe, status_number, fault_status, status_line}
 use Rattle.p4switch_run.specs.Words.{command_of, built}
 use Rattle.p4switch_run.specs.Replay.{Streams, Answers, IsWritten, IsCutShort, ReadWith}
 use Rattle.p4switch_run.specs.Tell.{IsSaid}
 
--- What a job says of its answer. Without one the words are refused, and all is left as it was.
+-- serving ends with the net, for a fault of it, or for want of memory
+abbrev pub IsServeStatus : Status → Type 0
+IsServeStatus status = (status ≡ statuses.Done) ⊎ ((status ≡ statuses.NoMemory) ⊎ (status ≡ statuses.NetFault))
+
+-- What a job says of its answer; serving leaves what is read and written as it was. Without one the words are refused, and all is left as it was.
 abbrev pub EndsBy : Option Job → Status → Streams → Streams → Type 0
 EndsBy None status old new = (status ≡ statuses.WordsRefused) × (new ≡ old)
 EndsBy (Some (jobs.Replay mode start)) status old new = Answers mode start status old new
 EndsBy (Some jobs.Check) status old new = Checks status old new
+EndsBy (Some (jobs.Serve serving)) status old new = IsServeStatus status × (new ≡ old)
+
+-- how often a net ended and failed, before and after it was served
+pub record IsServed (status : Status) (ends_before ends_after faults_before faults_after : ℕ) : Type 0 where
+  pub ended : HasCause ends_before ends_after (status ≡ statuses.Done)
+  pub not_ended : StaysUnless ends_before ends_after (status ≡ statuses.Done)
+  pub failed : HasCause faults_before faults_after (status ≡ statuses.NetFault)
+  pub no_fault : StaysUnless faults_before faults_after (status ≡ statuses.NetFault)
+
+-- What a job says of a net: one that serves none leaves it as it was.
+abbrev pub NetBy : Option Job → Status → ℕ → ℕ → ℕ → ℕ → Type 0
+NetBy None status ends_before ends_after faults_before faults_after = (ends_after ≡ ends_before) × (faults_after ≡ faults_before)
+NetBy (Some (jobs.Replay mode start)) status ends_before ends_after faults_before faults_after = (ends_after ≡ ends_before) × (faults_after ≡ faults_before)
+NetBy (Some jobs.Check) status ends_before ends_after faults_before faults_after = (ends_after ≡ ends_before) × (faults_after ≡ faults_before)
+NetBy (Some (jobs.Serve serving)) status ends_before ends_after faults_before faults_after = IsServed status ends_before ends_after faults_before faults_after
+
+-- what no job but serving uses is as it was
+abbrev pub IsUnusedBy : {A : Type 0} → Option Job → A → A → Type 0
+IsUnusedBy None old new = new ≡ old
+IsUnusedBy (Some (jobs.Replay mode start)) old new = new ≡ old
+IsUnusedBy (Some jobs.Check) old new = new ≡ old
+IsUnusedBy (Some (jobs.Serve serving)) old new = Unit {0}
+
+-- what the answer to these words says of a net
+abbrev pub NetEnds : Status → List (List ℕ) → ℕ → ℕ → ℕ → ℕ → Type 0
+NetEnds status words ends_before ends_after faults_before faults_after = NetBy (built (command_of words)) status ends_before ends_after faults_before faults_after
+
+-- words that do not ask for serving leave this as it was
+abbrev pub IsUnused : {A : Type 0} → List (List ℕ) → A → A → Type 0
+IsUnused words old new = IsUnusedBy (built (command_of words)) old new
+
+-- the words ask for serving, and the net ended
+pub record Serves (words : List (List ℕ)) (ends_before ends_after : ℕ) : Type 0 where
+  pub command : IsServe words
+  pub ended : Rose ends_before ends_after
 
 -- what the answer to these words says of what was read and written
 abbrev pub Ends : Status → List (List ℕ) → Streams → Streams → Type 0

@@ -119,8 +119,9 @@ abbrev pub command_of : List (List ℕ) → Option Command
 command_of [] = None
 command_of (name ∷ words) = command_named name words
 
--- What is built of the grammar: replays, and checks. Other commands are refused like words that are not in it.
+-- What is built of the grammar: replays, checks, and serving. Other commands are refused like words that are not in it.
 abbrev pub built : Option Command → Option Job
 built (Some (commands.Replay mode start)) = Some (jobs.Replay mode start)
 built (Some commands.Check) = Some jobs.Check
+built (Some (commands.Serve port packets workers start)) = Some (jobs.Serve (record { port = port; packets = packets; workers = workers; start = start }))
 built _ = None

@@ -3,39 +3,46 @@ ghost use Rattle.std.specs.Prelude.{◌≡◌, ◌≢◌, ◌≤◌, ◌⊎◌, 
 ghost use Rattle.sw_edge.specs.Counts.{Rose};
 ghost use Rattle.sw_edge.specs.Told.{Keeps};
 ghost use Rattle.tape_form.specs.TapeRead.{IsTooLong, IsUnfinished};
-ghost use Rattle.p4switch_run.specs.Command.{IsCommand, IsReplay, IsCheck};
+ghost use Rattle.p4switch_run.specs.Command.{IsCommand, IsReplay, IsCheck, IsServe};
 ghost use Rattle.p4_types.specs.declared.events.Start.{Start};
 ghost use Rattle.p4switch_run.specs.declared.words.Mode.{Mode};
 ghost use Rattle.p4switch_run.specs.Replay.{streams};
-ghost use Rattle.p4switch_run.specs.Run.{Ends, Reports, Breaks, Approves, BreaksLine, IsUnread, Misreads, Stops, Rejects, HoldsTape, HoldsBytes, NamesPlace, SaysStatus, lines};
+ghost use Rattle.p4switch_run.specs.Run.{Ends, NetEnds, IsUnused, Reports, Breaks, Approves, Serves, BreaksLine, IsUnread, Misreads, Stops, Rejects, HoldsTape, HoldsBytes, NamesPlace, SaysStatus, lines};
 
 use crate::check::check;
 use crate::replay::replay;
 use crate::status::Status;
 use crate::tell::tell;
 use crate::words::{Job, built, command_of};
+use serve_run::serve;
 use std::alloc::Global;
 use std::sync::Wait;
 use std::thread::Threads;
 use sw_edge::{Clock, Net, Sink, Source};
 
 // What the words ask for is done, if they are a command that is built.
-fn status_of<T: Threads + Wait + Sync, S: Source, O: Sink>(
+fn status_of<T: Threads + Wait + Sync, S: Source, O: Sink, N: Net + Drop, K: Clock + Send>(
     rt: &T,
     alloc: Global,
     words: &[&str],
     tape: &mut S,
     out: &mut O,
+    net: &mut N,
+    clock: &mut K,
 ) -> Status
     ensures ends { Ends result (map (λ word. word.now) words.now)
         (streams (S.left tape.old) (O.sent out.old) (S.faults tape.old) (O.faults out.old))
         (streams (S.left tape.new) (O.sent out.new) (S.faults tape.new) (O.faults out.new)) }
     ensures reads { S.faults tape.old ≤ S.faults tape.new }
     ensures writes { O.faults out.old ≤ O.faults out.new }
+    ensures net_ends { NetEnds result (map (λ word. word.now) words.now) (N.ends net.old) (N.ends net.new) (N.faults net.old) (N.faults net.new) }
+    ensures net { IsUnused (map (λ word. word.now) words.now) net.old net.new }
+    ensures clock { IsUnused (map (λ word. word.now) words.now) clock.old clock.new }
 {
     match built(command_of(words)) {
         Some(Job::Replay(mode, start)) => replay(rt, alloc, mode, start, tape, out),
         Some(Job::Check) => check(alloc, tape, out),
+        Some(Job::Serve(serving)) => Status::of_end(serve(rt, alloc, serving, net, clock)),
         None => Status::WordsRefused,
     }
 }
@@ -45,8 +52,10 @@ fn status_of<T: Threads + Wait + Sync, S: Source, O: Sink>(
 /// other options name, and writes its report to `out`, which is made whole before its first byte is written. With
 /// `--lockstep` the records of the tape run one after the other, and else each lane on a thread of its own; the lanes of a
 /// thread that cannot be started run on the caller's. `check` reads a configuration from `tape`, and writes `ok`, or `refused` with the first rule that it
-/// breaks. A status other than 0 and 8 has its line on `err`. The net and the clock are not used yet.
-pub fn run<T: Threads + Wait + Sync, S: Source, O: Sink, E: Sink, N: Net, K: Clock + Send>(
+/// breaks. `serve` listens on the net, and serves controllers and packets until the net ends or fails: which calls a controller's bytes
+/// make and what it is sent is said by `link_loop::serve_link`, what becomes of packets by `ports_loop::serve_ports`. A status other
+/// than 0 and 8 has its line on `err`.
+pub fn run<T: Threads + Wait + Sync, S: Source, O: Sink, E: Sink, N: Net + Drop, K: Clock + Send>(
     rt: &T,
     alloc: Global,
     words: &[&str],
@@ -56,14 +65,15 @@ pub fn run<T: Threads + Wait + Sync, S: Source, O: Sink, E: Sink, N: Net, K: Clo
     net: &mut N,
     clock: &mut K,
 ) -> u8
-    // 0: the tape is read to its end, and what is written is its report. With `--lockstep` it is that of the run that
+    // 0, of a replay: the tape is read to its end, and what is written is its report. With `--lockstep` it is that of the run that
     // follows the tape, else of a run in some interleaving of the lanes.
     ensures report { result ≡ 0 → (Reports (map (λ word. word.now) words.now)
         (streams (S.left tape.old) (O.sent out.old) (S.faults tape.old) (O.faults out.old))
         (streams (S.left tape.new) (O.sent out.new) (S.faults tape.new) (O.faults out.new)))
-        ⊎ (Approves (map (λ word. word.now) words.now)
+        ⊎ ((Approves (map (λ word. word.now) words.now)
         (streams (S.left tape.old) (O.sent out.old) (S.faults tape.old) (O.faults out.old))
-        (streams (S.left tape.new) (O.sent out.new) (S.faults tape.new) (O.faults out.new))) }
+        (streams (S.left tape.new) (O.sent out.new) (S.faults tape.new) (O.faults out.new)))
+        ⊎ Serves (map (λ word. word.now) words.now) (N.ends net.old) (N.ends net.new)) }
 
     // 1: the bytes are no tape, and the line names the place behind which they are none.
     ensures not_a_tape { result ≡ 1 → NamesPlace (S.left tape.old) (S.left tape.new)
@@ -106,13 +116,21 @@ pub fn run<T: Threads + Wait + Sync, S: Source, O: Sink, E: Sink, N: Net, K: Clo
         (streams (S.left tape.old) (O.sent out.old) (S.faults tape.old) (O.faults out.old))
         (streams (S.left tape.new) (O.sent out.new) (S.faults tape.new) (O.faults out.new)) }
 
-    // Neither is used.
-    ensures net { net.new ≡ net.old }
-    ensures clock { clock.new ≡ clock.old }
+    // 0, of serving: the net ended. With any other status it has not ended.
+    ensures no_net_end { result ≢ 0 → N.ends net.new ≡ N.ends net.old }
 
-    // There is no other status but 3, for want of memory.
+    // 7: the net failed. With any other status it has not failed.
+    ensures net_fault { result ≡ 7 → Rose (N.faults net.old) (N.faults net.new) }
+    ensures no_net_fault { result ≢ 7 → N.faults net.new ≡ N.faults net.old }
+
+    // Serving reads and writes nothing beside the net, and nothing else uses net or clock.
+    ensures left_alone { IsServe (map (λ word. word.now) words.now) → streams (S.left tape.new) (O.sent out.new) (S.faults tape.new) (O.faults out.new)
+        ≡ streams (S.left tape.old) (O.sent out.old) (S.faults tape.old) (O.faults out.old) }
+    ensures net { (IsServe (map (λ word. word.now) words.now) → ⊥) → net.new ≡ net.old }
+    ensures clock { (IsServe (map (λ word. word.now) words.now) → ⊥) → clock.new ≡ clock.old }
+
+    // There is no other status.
     ensures statuses { result ≤ 8 }
-    ensures no_net { result ≢ 7 }
     ensures nothing { result ≢ 0 → result ≢ 5 → result ≢ 8 → Keeps (O.sent out.old) (O.sent out.new) }
     ensures told { SaysStatus result (lines (E.sent err.old) (E.sent err.new) (E.faults err.old) (E.faults err.new)) }
 
@@ -125,10 +143,11 @@ pub fn run<T: Threads + Wait + Sync, S: Source, O: Sink, E: Sink, N: Net, K: Clo
     ensures judged { IsCheck (map (λ word. word.now) words.now) → HoldsBytes (S.left tape.old)
         → (Rose (S.faults tape.old) (S.faults tape.new) → ⊥) → (Rose (O.faults out.old) (O.faults out.new) → ⊥)
         → (result ≡ 0) ⊎ ((result ≡ 3) ⊎ (result ≡ 8)) }
+
+    // Serving ends with the net, unless this fails or memory is out.
+    ensures served { IsServe (map (λ word. word.now) words.now) → (Rose (N.faults net.old) (N.faults net.new) → ⊥) → (result ≡ 0) ⊎ (result ≡ 3) }
 {
-    let _ = net;
-    let _ = clock;
-    let status = status_of(rt, alloc, words, tape, out);
+    let status = status_of(rt, alloc, words, tape, out, net, clock);
     let _ = tell(err, status);
     status.number()
 }

@@ -1,12 +1,13 @@
 //! How a run of the program ends.
 ghost use Rattle.std.specs.Prelude.{◌≡◌};
 
+use serve_run::ServeEnd;
 use tape_form::TapeFault;
 
 /// How a run ends, and with which exit status.
 #[derive(Clone, Copy)]
 pub enum Status {
-    /// 0: the tape was read whole and its report was written.
+    /// 0: the tape was read whole and its report was written, or the configuration and its line, or the net that was served ended.
     Done,
     /// 1: the bytes are no tape; the longest front of them with which some tape begins has so many bytes.
     NotATape(u64),
@@ -14,18 +15,20 @@ pub enum Status {
     WordsRefused,
     /// 3: there was no memory.
     NoMemory,
-    /// 4: the tape's source failed.
+    /// 4: the source of the tape or of the configuration failed.
     ReadFault,
-    /// 5: the report's sink failed.
+    /// 5: the sink of the report or of the line failed.
     WriteFault,
-    /// 6: the tape has more bytes or records than a tape may have.
+    /// 6: the tape has more bytes or records than a tape may have, or the configuration more bytes.
     TooLong,
+    /// 7: the net failed.
+    NetFault,
     /// 8: the configuration breaks a rule.
     Refused,
 }
 
 impl Status {
-    ghost use Rattle.p4switch_run.specs.Command.{status_number, fault_status};
+    ghost use Rattle.p4switch_run.specs.Command.{status_number, fault_status, end_status};
 
     /// How a run ends whose tape was not read.
     pub fn of_fault(fault: TapeFault) -> Status
@@ -36,6 +39,17 @@ impl Status {
             TapeFault::TooLong => Status::TooLong,
             TapeFault::Fault => Status::ReadFault,
             TapeFault::NoMemory => Status::NoMemory,
+        }
+    }
+
+    /// How a run ends that served.
+    pub fn of_end(end: ServeEnd) -> Status
+        ensures { result ≡ end_status end }
+    {
+        match end {
+            ServeEnd::Ended => Status::Done,
+            ServeEnd::Fault => Status::NetFault,
+            ServeEnd::Memory => Status::NoMemory,
         }
     }
 
@@ -50,6 +64,7 @@ impl Status {
             Status::ReadFault => 4,
             Status::WriteFault => 5,
             Status::TooLong => 6,
+            Status::NetFault => 7,
             Status::Refused => 8,
         }
     }

@@ -47,6 +47,7 @@ pub fn tell<E: Sink>(err: &mut E, status: Status) -> Sent
         Status::ReadFault => say(err, "p4switch: read fault\n"),
         Status::WriteFault => say(err, "p4switch: write fault\n"),
         Status::TooLong => say(err, "p4switch: tape too long\n"),
+        Status::NetFault => say(err, "p4switch: net fault\n"),
         Status::Refused => say(err, ""),
     }
 }

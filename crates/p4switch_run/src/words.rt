@@ -6,6 +6,7 @@ ghost use Rattle.p4switch_run.specs.Words.{number_of, in_range, flag_named, numb
 
 use itoa::Buffer;
 use p4_types::events::Start;
+use serve_run::Serving;
 
 /// The commands that have options.
 #[derive(Clone, Copy)]
@@ -77,6 +78,8 @@ pub enum Job {
     Replay(Mode, Start),
     /// Judges a configuration.
     Check,
+    /// Serves controllers and packets.
+    Serve(Serving),
 }
 
 // The number that a word is written for, if it is below 2^64.
@@ -370,13 +373,26 @@ pub fn command_of(words: &[&str]) -> Option<Command>
     }
 }
 
-/// What a command asks for, if it is built: a replay, or a check. Another is refused like words that are not in the grammar.
+/// What a command asks for, if it is built: a replay, a check, or serving. Another is refused like words that are not in the grammar.
 pub fn built(command: Option<Command>) -> Option<Job>
     ensures { result ≡ built command }
 {
     match command {
         Some(Command::Replay { mode, start }) => Some(Job::Replay(mode, start)),
         Some(Command::Check) => Some(Job::Check),
+        Some(
+            Command::Serve {
+                port,
+                packets,
+                workers,
+                start,
+            },
+        ) => Some(Job::Serve(Serving {
+            port,
+            packets,
+            workers,
+            start,
+        })),
         _ => None,
     }
 }

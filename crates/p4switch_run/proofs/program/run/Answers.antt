@@ -8,7 +8,7 @@ returns-clause-report g c =
     let old = streams (g.S.Source.left c.args.tape.now) (g.O.Sink.sent c.args.out.now) (g.S.Source.faults c.args.tape.now) (g.O.Sink.faults c.args.out.now) in
     let new = streams (g.S.Source.left c.status_of-status.new.tape) (g.O.Sink.sent c.status_of-status.new.out) (g.S.Source.faults c.status_of-status.new.tape) (g.O.Sink.faults c.status_of-status.new.out) in
     let words = map (λ word. word.now) c.args.words.now in
-    λ e. endings.reports _ c.status_of-status.result words old new refl c.status_of-status.ensures.ends (sym c.number.ensures ∙ e)
+    λ e. endings.reports _ c.status_of-status.result words old new (g.N.Net.ends c.args.net.now) (g.N.Net.ends c.status_of-status.new.net) (g.N.Net.faults c.args.net.now) (g.N.Net.faults c.status_of-status.new.net) refl c.status_of-status.ensures.ends c.status_of-status.ensures.net_ends (sym c.number.ensures ∙ e)
 
 pub returns-clause-no_memory : goal.returns-clause-no_memory
 returns-clause-no_memory g c =
@@ -68,8 +68,41 @@ returns-clause-command g c =
 pub returns-clause-statuses : goal.returns-clause-statuses
 returns-clause-statuses g c = rw c.number.ensures (endings.at_most_8 c.status_of-status.result)
 
-pub returns-clause-no_net : goal.returns-clause-no_net
-returns-clause-no_net g c = λ e. endings.never_7 c.status_of-status.result (sym c.number.ensures ∙ e)
+pub returns-clause-net_fault : goal.returns-clause-net_fault
+returns-clause-net_fault g c =
+    let old = streams (g.S.Source.left c.args.tape.now) (g.O.Sink.sent c.args.out.now) (g.S.Source.faults c.args.tape.now) (g.O.Sink.faults c.args.out.now) in
+    let new = streams (g.S.Source.left c.status_of-status.new.tape) (g.O.Sink.sent c.status_of-status.new.out) (g.S.Source.faults c.status_of-status.new.tape) (g.O.Sink.faults c.status_of-status.new.out) in
+    λ e. endings.net_fault _ c.status_of-status.result old new (g.N.Net.ends c.args.net.now) (g.N.Net.ends c.status_of-status.new.net) (g.N.Net.faults c.args.net.now) (g.N.Net.faults c.status_of-status.new.net) c.status_of-status.ensures.ends c.status_of-status.ensures.net_ends (sym c.number.ensures ∙ e)
+
+pub returns-clause-no_net_fault : goal.returns-clause-no_net_fault
+returns-clause-no_net_fault g c = λ not. endings.sound_net _ c.status_of-status.result (g.N.Net.ends c.args.net.now) (g.N.Net.ends c.status_of-status.new.net) (g.N.Net.faults c.args.net.now) (g.N.Net.faults c.status_of-status.new.net) c.status_of-status.ensures.net_ends (λ e. not (c.number.ensures ∙ e))
+
+pub returns-clause-no_net_end : goal.returns-clause-no_net_end
+returns-clause-no_net_end g c = λ not. endings.unended_net _ c.status_of-status.result (g.N.Net.ends c.args.net.now) (g.N.Net.ends c.status_of-status.new.net) (g.N.Net.faults c.args.net.now) (g.N.Net.faults c.status_of-status.new.net) c.status_of-status.ensures.net_ends (λ e. not (c.number.ensures ∙ e))
+
+pub returns-clause-net : goal.returns-clause-net
+returns-clause-net g c =
+    let words = map (λ word. word.now) c.args.words.now in
+    λ not. endings.unused _ words c.args.net.now c.status_of-status.new.net refl c.status_of-status.ensures.net not
+
+pub returns-clause-clock : goal.returns-clause-clock
+returns-clause-clock g c =
+    let words = map (λ word. word.now) c.args.words.now in
+    λ not. endings.unused _ words c.args.clock.now c.status_of-status.new.clock refl c.status_of-status.ensures.clock not
+
+pub returns-clause-left_alone : goal.returns-clause-left_alone
+returns-clause-left_alone g c =
+    let old = streams (g.S.Source.left c.args.tape.now) (g.O.Sink.sent c.args.out.now) (g.S.Source.faults c.args.tape.now) (g.O.Sink.faults c.args.out.now) in
+    let new = streams (g.S.Source.left c.status_of-status.new.tape) (g.O.Sink.sent c.status_of-status.new.out) (g.S.Source.faults c.status_of-status.new.tape) (g.O.Sink.faults c.status_of-status.new.out) in
+    let words = map (λ word. word.now) c.args.words.now in
+    λ serves. endings.left_alone _ c.status_of-status.result words old new refl c.status_of-status.ensures.ends serves
+
+pub returns-clause-served : goal.returns-clause-served
+returns-clause-served g c serves sound =
+    let old = streams (g.S.Source.left c.args.tape.now) (g.O.Sink.sent c.args.out.now) (g.S.Source.faults c.args.tape.now) (g.O.Sink.faults c.args.out.now) in
+    let new = streams (g.S.Source.left c.status_of-status.new.tape) (g.O.Sink.sent c.status_of-status.new.out) (g.S.Source.faults c.status_of-status.new.tape) (g.O.Sink.faults c.status_of-status.new.out) in
+    let words = map (λ word. word.now) c.args.words.now in
+    rw c.number.ensures (endings.served _ c.status_of-status.result words old new (g.N.Net.ends c.args.net.now) (g.N.Net.ends c.status_of-status.new.net) (g.N.Net.faults c.args.net.now) (g.N.Net.faults c.status_of-status.new.net) refl c.status_of-status.ensures.ends c.status_of-status.ensures.net_ends serves sound)
 
 pub returns-clause-nothing : goal.returns-clause-nothing
 returns-clause-nothing g c =

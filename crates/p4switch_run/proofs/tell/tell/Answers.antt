@@ -17,3 +17,6 @@ returns-in-WriteFault g c = rw c.in-WriteFault.is c.say-in-WriteFault.ensures
 
 pub returns-in-TooLong : goal.returns-in-TooLong
 returns-in-TooLong g c = rw c.in-TooLong.is c.say-in-TooLong.ensures
+
+pub returns-in-NetFault : goal.returns-in-NetFault
+returns-in-NetFault g c = rw c.in-NetFault.is c.say-in-NetFault.ensures

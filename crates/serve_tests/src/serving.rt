@@ -1,0 +1,135 @@
+// Serving to the net's end, by the words of the command line.
+use crate::links::Script;
+use crate::nets::ScriptNet;
+use crate::stage::Stage;
+use std::alloc::Global;
+use std::sync::Wait;
+use std::test::Fail;
+use std::thread::Threads;
+use sw_edge::{ListClock, MemorySink, MemorySource};
+
+// A client that asks for the capabilities, and the server's answer, whose version is 1.3.0.
+const CLIENT: &str =
+    "505249202a20485454502f322e300d0a0d0a534d0d0a0d0a00000004000000000000004e0104000000018386441d2f70342e76312e503452756e74696d652f4361706162696c6974696573418cf1e3c2e5f23a6ba0ab90f4ff5f106170706c69636174696f6e2f677270634002746508747261696c6572730000050001000000010000000000";
+
+const SERVER: &str =
+    "0000060400000000000003000000640000000401000000000000040800000000000000000500002c01040000000100073a73746174757303323030000c636f6e74656e742d74797065106170706c69636174696f6e2f6772706300000c00000000000100000000070a05312e332e3000000f010500000001000b677270632d7374617475730130";
+
+// A client that opens the stream channel and asks to be primary with the election id 1. The first that does is told that it is; the other
+// is refused (INVALID_ARGUMENT), which closes its channel.
+const CONTROLLER: &str =
+    "505249202a20485454502f322e300d0a0d0a534d0d0a0d0a00000004000000000000006f01040000000100073a6d6574686f6404504f535400073a736368656d65046874747000053a706174681e2f70342e76312e503452756e74696d652f53747265616d4368616e6e656c000a3a617574686f726974790173000c636f6e74656e742d74797065106170706c69636174696f6e2f6772706300000d00000000000100000000080a0608011a021001";
+
+const PRIMARY: &str =
+    "0000060400000000000003000000640000000401000000000000040800000000000000000d0000040800000000010000000d00002c01040000000100073a73746174757303323030000c636f6e74656e742d74797065106170706c69636174696f6e2f6772706300000f000000000001000000000a0a0808011a0210012200";
+
+const REFUSED: &str =
+    "0000060400000000000003000000640000000401000000000000040800000000000000000d0000040800000000010000000d00003b01050000000100073a73746174757303323030000c636f6e74656e742d74797065106170706c69636174696f6e2f67727063000b677270632d7374617475730133";
+
+/// More links than a switch has lanes.
+const MANY: usize = 40;
+
+// The status of a program that serves links which follow these scripts, beside so many packets. It promises nothing, so that the tests do
+// not carry what `run` does.
+fn status_of<T: Threads + Wait + Sync>(
+    rt: &T,
+    alloc: Global,
+    stage: &Stage,
+    scripts: &[Script<'_>],
+    packets: u64,
+) -> Result<u8, Fail> {
+    let words = [
+        "serve",
+        "--workers",
+        "3",
+        "--packets",
+        "9100",
+        "--port",
+        "9559",
+    ];
+    let mut source = MemorySource::in_pieces(Vec::new(alloc), 1, Vec::new(alloc));
+    let mut out = MemorySink::new(alloc, 16, Vec::new(alloc))?;
+    let mut err = MemorySink::new(alloc, 64, Vec::new(alloc))?;
+    let mut net = ScriptNet::new(rt, stage, scripts, packets);
+    let mut clock = ListClock::new(Vec::new(alloc));
+    Ok(p4switch_run::run(
+        rt,
+        alloc,
+        &words,
+        &mut source,
+        &mut out,
+        &mut err,
+        &mut net,
+        &mut clock,
+    ))
+}
+
+#[test]
+fn links_are_served_beside_one_another_and_packets_beside_them(
+    rt: HostRuntime,
+) -> Result<(), Fail> {
+    let alloc = rt.alloc();
+    let client = hex::decode(alloc, CLIENT)?;
+    let server = hex::decode(alloc, SERVER)?;
+    let stage = Stage::new(alloc);
+    let script = Script {
+        bytes: client.as_slice(),
+        before: 1,
+        until: 0,
+    };
+    let status = status_of(&rt, alloc, &stage, &[script, script], 3)?;
+    assert!(rt; status == 0);
+    assert!(rt;
+        stage.first.was_sent(&rt, server.as_slice()),
+        "the first link"
+    );
+    assert!(rt; stage.second.was_sent(&rt, server.as_slice()), "the second");
+    assert!(rt; stage.packets() == 3, "packets");
+    assert!(rt; !stage.gave_up(), "nobody waits in vain");
+    Ok(())
+}
+
+#[test]
+fn what_one_controller_took_another_cannot_take(rt: HostRuntime) -> Result<(), Fail> {
+    let alloc = rt.alloc();
+    let client = hex::decode(alloc, CONTROLLER)?;
+    let primary = hex::decode(alloc, PRIMARY)?;
+    let refused = hex::decode(alloc, REFUSED)?;
+    let stage = Stage::new(alloc);
+    let first = Script {
+        bytes: client.as_slice(),
+        before: 0,
+        until: refused.len(),
+    };
+    let second = Script {
+        bytes: client.as_slice(),
+        before: primary.len(),
+        until: 0,
+    };
+    let status = status_of(&rt, alloc, &stage, &[first, second], 0)?;
+    assert!(rt; status == 0);
+    assert!(rt; stage.first.was_sent(&rt, primary.as_slice()), "the first");
+    assert!(rt;
+        stage.second.was_sent(&rt, refused.as_slice()),
+        "the second"
+    );
+    Ok(())
+}
+
+#[test]
+fn more_links_are_served_than_there_are_lanes(rt: HostRuntime) -> Result<(), Fail> {
+    let alloc = rt.alloc();
+    let client = hex::decode(alloc, CLIENT)?;
+    let server = hex::decode(alloc, SERVER)?;
+    let stage = Stage::new(alloc);
+    let script = Script {
+        bytes: client.as_slice(),
+        before: 0,
+        until: 0,
+    };
+    let status = status_of(&rt, alloc, &stage, &[script; MANY], 0)?;
+    assert!(rt; status == 0);
+    let sent = server.len().saturating_mul(MANY / 2);
+    assert!(rt; stage.first.length() == sent && stage.second.length() == sent);
+    Ok(())
+}
