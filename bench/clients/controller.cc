@@ -1,15 +1,17 @@
-// controller PORT CONFIG [WRITES]
+// controller PORT CONFIG [WRITES [ANSWER]]
 //
 // A controller over gRPC's C++ library, at a switch that serves at 127.0.0.1:PORT: capabilities, arbitration, the
 // program of the file CONFIG, which bin/p4config made of the router of examples/programs, an entry, its counter,
 // WRITES Writes (default 10,000), one at a time and then 16, a packet out and in, and a backup that is told of its
-// primary's leaving. The calls are named at a generic stub, and their messages are those of tools/p4tools/protos. It
-// prints a line for each step and ends with status 1 at the first difference.
+// primary's leaving. The calls are named at a generic stub, and their messages are those of tools/p4tools/protos. The
+// same Writes are made at the server of answer.cc, where one listens at port ANSWER. It prints a line for each step and
+// ends with status 1 at the first difference.
 
 #include <chrono>
 #include <cstdint>
 #include <cstdlib>
 #include <fstream>
+#include <iomanip>
 #include <iostream>
 #include <iterator>
 #include <memory>
@@ -239,6 +241,20 @@ double WritesASecond(const std::shared_ptr<grpc::Channel>& channel, int count, i
   return count / std::chrono::duration<double>(std::chrono::steady_clock::now() - begun).count();
 }
 
+// The same at the switch and at a server that answers at once, if there is one.
+void TimeWrites(const std::shared_ptr<grpc::Channel>& channel, const std::shared_ptr<grpc::Channel>& answer, int count,
+                int in_flight) {
+  double ours = WritesASecond(channel, count, in_flight);
+  std::cout << count << " Writes on one channel, " << in_flight << " at a time: " << static_cast<long>(ours)
+            << " a second";
+  if (answer) {
+    double others = WritesASecond(answer, count, in_flight);
+    std::cout << ", " << std::fixed << std::setprecision(2) << ours / others << " times the "
+              << static_cast<long>(others) << " a second of a server that answers at once";
+  }
+  std::cout << std::endl;
+}
+
 // The bytes of hex digits.
 std::string Bytes(const std::string& digits) {
   std::string bytes;
@@ -273,9 +289,9 @@ void ExpectPacketBack(const std::shared_ptr<grpc::Channel>& channel, Stream& str
 }
 
 int main(int count, char** words) {
-  Expect(count == 3 || count == 4, "write: controller PORT CONFIG [WRITES]");
+  Expect(3 <= count && count <= 5, "write: controller PORT CONFIG [WRITES [ANSWER]]");
   auto channel = ChannelTo(words[1]);
-  int writes = count == 4 ? std::atoi(words[3]) : 10'000;
+  int writes = count > 3 ? std::atoi(words[3]) : 10'000;
 
   p4::v1::CapabilitiesResponse told;
   Expect(Call(channel, "Capabilities", p4::v1::CapabilitiesRequest(), &told).ok(), "Capabilities was refused");
@@ -305,11 +321,10 @@ int main(int count, char** words) {
   ExpectEntry(channel, Route(3, 3));
   std::cout << "read: the entry, and a counter of 0" << std::endl;
 
-  std::cout << writes << " Writes, one at a time: " << static_cast<long>(WritesASecond(channel, writes, 1))
-            << " a second" << std::endl;
+  auto answer = count > 4 ? ChannelTo(words[4]) : nullptr;
+  TimeWrites(channel, answer, writes, 1);
   ExpectEntry(channel, Route(1 + (writes - 1) % 8, writes - 1));
-  std::cout << writes << " Writes, " << kInFlight << " at a time: "
-            << static_cast<long>(WritesASecond(channel, writes, kInFlight)) << " a second" << std::endl;
+  TimeWrites(channel, answer, writes, kInFlight);
 
   ExpectPacketBack(channel, stream);
   std::cout << "packet out and in: came back, and was counted" << std::endl;

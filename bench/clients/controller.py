@@ -1,20 +1,16 @@
 #!/usr/bin/python3
-"""controller.py PORT [--packets N] [--writes N]
+"""controller.py PORT --packets N [--writes N]
 
-A controller over grpcio, and a second one beside it, at a switch that serves at 127.0.0.1:PORT: each answer is
-compared with what P4Runtime 1.3.0 and the router of examples/programs make it. With --packets, the UDP port at which
-packets go into the switch, also what leaves it is compared. It prints a line for each step and ends with status 1 at
-the first difference. --writes is the number of Writes that are timed, 10,000 without it.
+A controller over grpcio, and a second one beside it, at a switch that serves at 127.0.0.1:PORT and takes packets at the
+UDP port N: each answer, and each packet that leaves, is compared with what P4Runtime 1.3.0 and the programs of
+examples/programs make it. It prints a line for each step and ends with status 1 at the first difference. --writes is
+the number of Writes that are timed, 10,000 without it.
 """
-import argparse
-import sys
 import time
-
-import grpc
 
 from ipv4 import Network, packet, routed
 from p4client import (CPU_PORT, DELETE, INSERT, MODIFY, PATIENCE, ROLLBACK_ON_ERROR, Controller, Difference, Program,
-                      call_out, expect, expect_arbitration, fresh_election, p4, refusal, update_errors)
+                      call_out, expect, expect_arbitration, fresh_election, main, p4, refusal, update_errors)
 
 MAC = "02:00:00:00:00:03"
 TO_PORT = f"ipv4_lpm dst=10.1.0.0/16 route(port=3, mac={MAC})"
@@ -104,16 +100,15 @@ def packets(primary, program, network):
     primary.packet_out(data)
     expect_count(primary, program, "ipv4_lpm dst=10.1.0.0/16", (1, len(data)))
     call_out(f"packet out: counted as 1 packet of {len(data)} bytes")
-    if network:
-        expect_leaves(network, 3, routed("10.1.2.3", MAC, b"out"))
-        call_out("packet out: left at port 3 with the route's address")
-        network.send(1, packet("10.1.2.3", b"through"))
-        expect_leaves(network, 3, routed("10.1.2.3", MAC, b"through"))
-        call_out("packet through: from port 1 to port 3")
-        network.send(1, packet("10.2.0.9", b"in"))
-        expect_packet_in(primary, routed("10.2.0.9", MAC, b"in"))
-        call_out("packet in: from port 1 to the controller")
-        time_packets_in(primary, network)
+    expect_leaves(network, 3, routed("10.1.2.3", MAC, b"out"))
+    call_out("packet out: left at port 3 with the route's address")
+    network.send(1, packet("10.1.2.3", b"through"))
+    expect_leaves(network, 3, routed("10.1.2.3", MAC, b"through"))
+    call_out("packet through: from port 1 to port 3")
+    network.send(1, packet("10.2.0.9", b"in"))
+    expect_packet_in(primary, routed("10.2.0.9", MAC, b"in"))
+    call_out("packet in: from port 1 to the controller")
+    time_packets_in(primary, network)
     primary.packet_out(packet("10.2.0.9", b"there and back"))
     expect_packet_in(primary, routed("10.2.0.9", MAC, b"there and back"))
     call_out("packet out and in: from the controller to the controller")
@@ -172,7 +167,7 @@ def backup_takes_over(primary, backup, program):
 
 
 def digests(primary):
-    """Another program takes the router's place, and what it learns is told once, and again behind an acknowledgement."""
+    """Another program takes the router's place; what it learns is told once, and again behind an acknowledgement."""
     lab = Program("lab")
     primary.set_config(lab.config)
     expect("entries", primary.read(lab.entity("acl")), [])
@@ -220,7 +215,7 @@ def many_writes(primary, program, count):
 def run(given):
     program = Program("router")
     primary, backup = Controller(given.port), Controller(given.port)
-    network = Network(given.packets) if given.packets else None
+    network = Network(given.packets)
     try:
         start(primary, program)
         entries(primary, program)
@@ -233,20 +228,8 @@ def run(given):
     finally:
         primary.close()
         backup.close()
-        if network:
-            network.close()
-
-
-def main():
-    words = argparse.ArgumentParser(description=__doc__, formatter_class=argparse.RawDescriptionHelpFormatter)
-    words.add_argument("port", type=int)
-    words.add_argument("--packets", type=int)
-    words.add_argument("--writes", type=int, default=10_000)
-    try:
-        run(words.parse_args())
-    except (Difference, grpc.RpcError) as difference:
-        sys.exit(f"controller.py: {difference}")
+        network.close()
 
 
 if __name__ == "__main__":
-    main()
+    main(__doc__, run, writes=10_000)

@@ -8,8 +8,6 @@ route it took. No packet may see half of a batch, take the route upstream that s
 packet that is sent behind a batch's answer goes by that batch or a later one. It ends with status 1 at the first
 difference.
 """
-import argparse
-import sys
 import threading
 import time
 
@@ -17,7 +15,7 @@ import grpc
 
 from ipv4 import Network, mac_bytes, packet, routed
 from p4client import (DATAPLANE_ATOMIC, DELETE, INSERT, PATIENCE, Controller, Difference, Program, call_out, expect,
-                      expect_arbitration, fresh_election, p4, refusal, update_errors)
+                      main, p4, refusal, update_errors)
 
 CUSTOMERS = ("10.1.2.3", "10.1.200.3")
 UPSTREAM = "ipv4_lpm dst=10.0.0.0/8"
@@ -64,10 +62,7 @@ class Replacing:
 
     def start(self):
         """The program, the route upstream, and the routes of batch 0."""
-        self.controller.open()
-        election = fresh_election()
-        expect_arbitration("arbitration", self.controller.arbitrate(election), election, "OK")
-        self.controller.set_config(self.program.config)
+        self.controller.take_charge(self.program)
         upstream = self.program.update(INSERT, f"{UPSTREAM} route(port=1, mac={mac_of(1, 0)})")
         self.controller.write([upstream] + self.inserts(0, 0))
 
@@ -157,16 +152,5 @@ def run(given):
         network.close()
 
 
-def main():
-    words = argparse.ArgumentParser(description=__doc__, formatter_class=argparse.RawDescriptionHelpFormatter)
-    words.add_argument("port", type=int)
-    words.add_argument("--packets", type=int, required=True)
-    words.add_argument("--seconds", type=float, default=10)
-    try:
-        run(words.parse_args())
-    except (Difference, grpc.RpcError) as difference:
-        sys.exit(f"flow.py: {difference}")
-
-
 if __name__ == "__main__":
-    main()
+    main(__doc__, run, seconds=10.0)

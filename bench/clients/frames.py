@@ -11,7 +11,7 @@ HEADER_TABLE_SIZE, INITIAL_WINDOW_SIZE = 1, 4
 PROTOCOL_ERROR, FLOW_CONTROL_ERROR, FRAME_SIZE_ERROR, REFUSED_STREAM, COMPRESSION_ERROR = 1, 3, 6, 7, 9
 LARGEST_WINDOW = (1 << 31) - 1
 FIRST_WINDOW = 65_535
-LONGEST_FRAME = 16_384
+SHORT_SEGMENT = 1_400
 STATUSES = {8: "200", 9: "204", 10: "206", 11: "304", 12: "400", 13: "404", 14: "500"}
 
 
@@ -97,12 +97,14 @@ def _read_text(block, at):
 
 
 class Connection:
-    """A connection to 127.0.0.1. `room` is the size of the socket's buffer for what comes, where it is to be small."""
+    """A connection to 127.0.0.1. A narrow one takes little, some 30,000 bytes in all, before its peer cannot send."""
 
-    def __init__(self, port, room=None):
+    def __init__(self, port, narrow=False):
         self.socket = socket.socket(socket.AF_INET, socket.SOCK_STREAM)
-        if room:
-            self.socket.setsockopt(socket.SOL_SOCKET, socket.SO_RCVBUF, room)
+        if narrow:
+            # The least buffer that the system gives. That of the other side follows the length of segments.
+            self.socket.setsockopt(socket.SOL_SOCKET, socket.SO_RCVBUF, 1)
+            self.socket.setsockopt(socket.IPPROTO_TCP, socket.TCP_MAXSEG, SHORT_SEGMENT)
         self.socket.setsockopt(socket.IPPROTO_TCP, socket.TCP_NODELAY, 1)
         self.socket.settimeout(20)
         self.socket.connect(("127.0.0.1", port))
@@ -112,11 +114,11 @@ class Connection:
     def send(self, data):
         self.socket.sendall(data)
 
-    def begin(self, window=None):
-        """The preface and the first SETTINGS: no dynamic table, and a window for each stream where one is given; the
-        connection's window is the largest."""
-        pairs = [(HEADER_TABLE_SIZE, 0)] + ([] if window is None else [(INITIAL_WINDOW_SIZE, window)])
-        self.send(PREFACE + settings(pairs) + window_update(0, LARGEST_WINDOW - FIRST_WINDOW))
+    def begin(self, window=FIRST_WINDOW):
+        """The preface and the first SETTINGS: no dynamic table, and a window for each stream; and the largest window of
+        the connection."""
+        self.send(PREFACE + settings([(HEADER_TABLE_SIZE, 0), (INITIAL_WINDOW_SIZE, window)]))
+        self.send(window_update(0, LARGEST_WINDOW - FIRST_WINDOW))
 
     def open_stream(self, method, flags=END_HEADERS):
         """HEADERS of a call on the next stream, whose number is answered."""
@@ -158,6 +160,17 @@ class Connection:
             self.kept += data
         taken, self.kept = self.kept[:count], self.kept[count:]
         return taken
+
+    def sip(self, most):
+        """Takes no more than so many bytes, as long as they come at once, and keeps them for `next_frame`."""
+        self.socket.settimeout(0.02)
+        until = len(self.kept) + most
+        try:
+            while len(self.kept) < until and (data := self.socket.recv(until - len(self.kept))):
+                self.kept += data
+        except (socket.timeout, ConnectionError):
+            pass
+        self.socket.settimeout(20)
 
     def next_of(self, kind, stream=None, seconds=20):
         """The next frame of a kind, also of a stream where one is given; what comes before it is passed over."""

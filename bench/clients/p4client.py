@@ -1,4 +1,5 @@
-"""A P4Runtime controller over grpcio, as the clients beside this file use it."""
+"""A P4Runtime controller over grpcio, as the clients beside this file use it, and how these are started."""
+import argparse
 import os
 import queue
 import sys
@@ -55,6 +56,20 @@ def call_out(line):
     print(line, flush=True)
 
 
+def main(told, run, **options):
+    """Runs a client by the words of the command line: the port, --packets, and options of its own with their defaults.
+    It ends with status 1 at the first difference."""
+    words = argparse.ArgumentParser(description=told, formatter_class=argparse.RawDescriptionHelpFormatter)
+    words.add_argument("port", type=int)
+    words.add_argument("--packets", type=int, required=True)
+    for name, default in options.items():
+        words.add_argument("--" + name, type=type(default), default=default)
+    try:
+        run(words.parse_args())
+    except (Difference, grpc.RpcError, OSError) as difference:
+        sys.exit(f"{os.path.basename(sys.argv[0])}: {difference}")
+
+
 class Program:
     """A program of examples/programs, as a compiler wrote it."""
 
@@ -99,9 +114,9 @@ def update_errors(status):
 class Controller:
     """A controller, over one connection of its own. `election` is the election id of its calls."""
 
-    def __init__(self, port, election=1, role=0):
-        self.channel = grpc.insecure_channel(f"127.0.0.1:{port}", options=OPTIONS)
-        self.election, self.role = election, role
+    def __init__(self, port, options=()):
+        self.channel = grpc.insecure_channel(f"127.0.0.1:{port}", options=[*OPTIONS, *options])
+        self.election = 1
         self.asked = self.stream = None
         self.heard = queue.Queue()
 
@@ -121,8 +136,8 @@ class Controller:
         return self.unary("Capabilities", p4.CapabilitiesRequest(), p4.CapabilitiesResponse)
 
     def as_primary(self, request):
-        """The same request with the device, the role and the election id of this controller."""
-        request.device_id, request.role_id = DEVICE, self.role
+        """The same request with the device and the election id of this controller."""
+        request.device_id = DEVICE
         p4.set_number(request.election_id, self.election)
         return request
 
@@ -150,13 +165,17 @@ class Controller:
 
     # The stream channel.
 
-    def open(self):
-        """Opens the stream channel. What comes on it waits for `hear`."""
+    def open(self, listening=True):
+        """Opens the stream channel. What comes on it waits for `hear`, once it is listened to."""
         call = self.channel.stream_stream(
             SERVICE + "StreamChannel", request_serializer=lambda it: it.SerializeToString(),
             response_deserializer=lambda it: p4.parse(p4.StreamResponse, it))
         self.asked = queue.SimpleQueue()
         self.stream = call(iter(self.asked.get, None))
+        if listening:
+            self.listen()
+
+    def listen(self):
         threading.Thread(target=self._listen, daemon=True).start()
 
     def _listen(self):
@@ -193,8 +212,6 @@ class Controller:
         self.election = election
         request = p4.StreamRequest()
         request.arbitration.device_id = DEVICE
-        if self.role:
-            request.arbitration.role.id = self.role
         p4.set_number(request.arbitration.election_id, election)
         self.asked.put(request)
 
@@ -202,6 +219,13 @@ class Controller:
         """Asks for an election id, and hears the answer."""
         self.say_arbitration(election)
         return self.hear_kind("arbitration")
+
+    def take_charge(self, program):
+        """Opens the stream, becomes the primary, and commits a program."""
+        self.open()
+        election = fresh_election()
+        expect_arbitration("arbitration", self.arbitrate(election), election, "OK")
+        self.set_config(program.config)
 
     def packet_out(self, payload):
         request = p4.StreamRequest()

@@ -2,32 +2,28 @@
 """rough.py PORT --packets N
 
 Bad peers at a switch that serves at 127.0.0.1:PORT and takes packets at the UDP port N: peers that close or reset in
-mid-frame, send what is no HTTP/2, open too many streams, send datagrams that are no packets, or never read. Behind each
-a fresh controller is answered, one that was there before goes on, and nothing that was written is lost. It prints a
-line for each and ends with status 1 at the first difference.
+mid-frame, send what is no HTTP/2, open too many streams, send datagrams that are no packets, or never read. Behind
+each a fresh controller is answered, one that was there before goes on, and nothing that was written is lost. It prints a line for each and ends with status 1 at the first difference.
 """
-import argparse
 import random
-import sys
 import time
-
-import grpc
 
 import frames
 from frames import Connection
 from ipv4 import Network, packet, routed
 from p4client import (CPU_PORT, INSERT, MODIFY, PATIENCE, Controller, Difference, Program, call_out, expect,
-                      expect_arbitration, fresh_election, p4)
+                      expect_arbitration, main, p4)
 
 MAC = "02:00:00:00:00:03"
 KEPT = f"ipv4_lpm dst=10.1.0.0/16 route(port=3, mac={MAC})"
 TO_CONTROLLER = f"ipv4_lpm dst=10.2.0.0/16 route(port={CPU_PORT}, mac={MAC})"
 CAPABILITIES = p4.CapabilitiesResponse(p4runtime_api_version="1.3.0").SerializeToString()
-NOTICES, LATE_NOTICES = 300, 150
-GIVEN_UP_IN = 120
-NOTICES_FOR_CERTAIN, MOST_THAT_WAIT = 64, 256
-# More than a connection's buffers take, and 192 that may wait for it.
-LARGE_PACKETS, LARGE_PAYLOAD = 700, bytes(9_000)
+GIVEN_UP_IN = 60
+NOTICES = 300
+# What may wait for a controller at the switch's desk, of which so many are no packets.
+MOST_THAT_WAIT, NO_PACKETS = 256, 64
+# Packets for a controller: more than a narrow connection and the desk take together.
+PACKETS, PAYLOAD = 400, bytes(1_000)
 
 
 class Standing:
@@ -36,10 +32,7 @@ class Standing:
     def __init__(self, port, program):
         self.port, self.program, self.changes = port, program, 0
         self.controller = Controller(port)
-        self.controller.open()
-        election = fresh_election()
-        expect_arbitration("arbitration", self.controller.arbitrate(election), election, "OK")
-        self.controller.set_config(program.config)
+        self.controller.take_charge(program)
         self.controller.write([program.update(INSERT, it) for it in (KEPT, TO_CONTROLLER, self.changing())])
 
     def changing(self):
@@ -50,6 +43,14 @@ class Standing:
         """Becomes the primary by a greater election id."""
         self.controller.say_arbitration(election)
         self.is_told(election, "OK")
+
+    def take_over_often(self, first, count, meanwhile):
+        """So many times, each with an id above the one before, and without waiting for an answer in between."""
+        for election in range(first, first + count):
+            self.controller.say_arbitration(election)
+        for election in range(first, first + count):
+            meanwhile()
+            self.is_told(election, "OK")
 
     def is_told(self, election, code):
         """Hears of an arbitration. Packets that were under way to it are passed over."""
@@ -243,22 +244,36 @@ def bad_datagrams(network):
 # Peers that do not read.
 
 class Sleeper:
-    """A controller with large windows that is the primary of role 0, and then does not read."""
+    """A controller that becomes the primary of role 0, and then does not read: neither does a narrow one take TCP's
+    bytes, nor one with a shut window let DATA come."""
 
-    def __init__(self, port, election, room=4_096, window=frames.LARGEST_WINDOW):
-        self.peer = Connection(port, room)
+    def __init__(self, standing, narrow=False, window=frames.LARGEST_WINDOW):
+        self.first, self.sipped = standing.controller.election + 1, time.monotonic()
+        self.peer = Connection(standing.port, narrow)
         self.peer.begin(window)
         self.channel = self.peer.open_stream("StreamChannel")
         request = p4.StreamRequest()
         request.arbitration.device_id = 1
-        p4.set_number(request.arbitration.election_id, election)
+        p4.set_number(request.arbitration.election_id, self.first)
         self.peer.say(self.channel, request.SerializeToString())
+        standing.is_told(self.first, "ALREADY_EXISTS")
+
+    def sip(self):
+        """Takes a little now and then, so that a slow switch does not give it up before more waits than may. The system
+        lets the switch send again once a third of what it keeps for it was taken."""
+        if time.monotonic() > self.sipped + 2:
+            self.peer.sip(16_384)
+            self.sipped = time.monotonic()
 
     def wake(self):
-        """Reads until its channel is closed: the messages and the trailers."""
-        self.peer.socket.setsockopt(frames.socket.SOL_SOCKET, frames.socket.SO_RCVBUF, 1 << 22)
+        """Reads until its channel is closed: the messages and the code."""
         data, headers = self.peer.answer(self.channel)
-        return [p4.parse(p4.StreamResponse, it) for it in data], headers
+        return [p4.parse(p4.StreamResponse, it) for it in data], p4.code_name(int(headers["grpc-status"]))
+
+    def goes_on(self):
+        """The connection is served, and ends."""
+        expect_capabilities(self.peer)
+        self.peer.close()
 
 
 def numbers_told(messages):
@@ -266,74 +281,66 @@ def numbers_told(messages):
     return [p4.number_of(it.arbitration.election_id) for it in messages if it.WhichOneof("update") == "arbitration"]
 
 
-def flood(network, count):
-    """Packets for the primary of role 0, faster than a peer that does not read takes them."""
-    data = packet("10.2.0.9", LARGE_PAYLOAD)
-    for _ in range(count):
+def flood(network, meanwhile=lambda: None):
+    """Some packets for the primary of role 0, faster than a peer that does not read takes them."""
+    data = packet("10.2.0.9", PAYLOAD)
+    for _ in range(50):
         network.send(1, data)
         time.sleep(0.0005)
+        meanwhile()
 
 
 def overflows(standing, network):
-    """More than 256 messages wait for a peer that reads nothing for a while: what waited comes, and then its channel is
-    closed with RESOURCE_EXHAUSTED. All of it takes less than five seconds, behind which the peer would be given up."""
-    first = standing.controller.election + 1
-    sleeper = Sleeper(standing.port, first)
-    standing.is_told(first, "ALREADY_EXISTS")
-    before = standing.packets_for_the_controller()
-    while standing.packets_for_the_controller() < before + LARGE_PACKETS:
-        flood(network, 50)
-    if not standing.controller.heard.empty():
-        raise Difference(f"a peer that reads late was given up before {LARGE_PACKETS} packets were run for it")
-    for number in range(1, LATE_NOTICES + 1):
-        standing.take_over(first + number)
+    """More messages are for a peer that does not read than may wait for it: what waits for it comes once it reads, no
+    more than MOST_THAT_WAIT beside what its connection holds, and then its channel is closed with RESOURCE_EXHAUSTED."""
+    what, sleeper = "a peer that reads late", Sleeper(standing, narrow=True)
+    wanted = standing.packets_for_the_controller() + PACKETS
+    while standing.packets_for_the_controller() < wanted:
+        flood(network, sleeper.sip)
+    expect(f"{what}: it is given up before it reads", not standing.controller.heard.empty(), False)
+    standing.take_over_often(sleeper.first + 1, NOTICES, sleeper.sip)
     try:
-        messages, headers = sleeper.wake()
-    except (ConnectionError, TimeoutError) as error:
-        raise Difference(f"a peer that reads late: {error}; it has five seconds, in which the switch is to run "
-                         f"{LARGE_PACKETS} packets and to answer {LATE_NOTICES} arbitrations") from None
-    expect("code of the closed channel", headers.get("grpc-status"), "8")
+        messages, code = sleeper.wake()
+    except (ConnectionError, TimeoutError, Difference) as error:
+        raise Difference(f"{what}: its channel is not closed: {error}") from None
+    expect(f"{what}: code of the closed channel", code, "RESOURCE_EXHAUSTED")
     told = numbers_told(messages)
-    expect("what the sleeper was told, one behind the other", told, list(range(first, first + len(told))))
-    if not NOTICES_FOR_CERTAIN < len(told) <= MOST_THAT_WAIT + 1 or len(messages) < MOST_THAT_WAIT:
-        raise Difference(f"the sleeper was told {len(told)} times among {len(messages)} messages")
-    expect_capabilities(sleeper.peer)
-    sleeper.peer.close()
-    return (f"a peer that reads late: {len(told)} notices and {len(messages) - len(told)} packets, "
-            "then RESOURCE_EXHAUSTED, and its connection goes on")
+    expect(f"{what}: election ids that it is told, one behind the other", told,
+           list(range(sleeper.first, sleeper.first + len(told))))
+    if not (NO_PACKETS < len(told) <= MOST_THAT_WAIT + 1 and MOST_THAT_WAIT <= len(messages) <= MOST_THAT_WAIT + PACKETS):
+        raise Difference(f"{what}: told {len(told)} times among {len(messages)} messages")
+    sleeper.goes_on()
+    return (f"{what}: {len(told)} notices and {len(messages) - len(told)} packets come in the end, then "
+            "RESOURCE_EXHAUSTED, and its connection goes on")
 
 
 def never_reads(standing, network):
-    """A peer that reads nothing for more than five seconds is given up, and the others are told that it left."""
-    first = standing.controller.election + 1
-    sleeper = Sleeper(standing.port, first)
-    standing.is_told(first, "ALREADY_EXISTS")
+    """A peer that takes none of TCP's bytes for more than five seconds is given up, and the others are told that it
+    left."""
+    sleeper = Sleeper(standing, narrow=True)
     begun = time.monotonic()
     fresh = Controller(standing.port)
     while standing.controller.heard.empty():
-        flood(network, 50)
+        flood(network)
         expect("version", fresh.capabilities().p4runtime_api_version, "1.3.0")
         if time.monotonic() > begun + GIVEN_UP_IN:
             raise Difference(f"a peer that never reads was not given up in {GIVEN_UP_IN} seconds")
     fresh.close()
-    standing.is_told(first, "NOT_FOUND")
+    standing.is_told(sleeper.first, "NOT_FOUND")
     took = time.monotonic() - begun
     sleeper.peer.close()
-    standing.take_over(first + 1)
+    standing.take_over(sleeper.first + 1)
     return f"a peer that never reads: given up after {took:.1f} s, while another was answered"
 
 
 def keeps_its_window_shut(standing):
     """A peer with a window of 0 is sent no DATA, and all that it was told once it opens the window."""
-    first = standing.controller.election + 1
-    sleeper = Sleeper(standing.port, first, window=0)
-    standing.is_told(first, "ALREADY_EXISTS")
-    for number in range(1, NOTICES + 1):
-        standing.take_over(first + number)
+    sleeper = Sleeper(standing, window=0)
+    standing.take_over_often(sleeper.first + 1, NOTICES, sleeper.sip)
     expect_no_data(sleeper.peer)
     sleeper.peer.send(frames.window_update(sleeper.channel, 1 << 20))
     messages = [p4.parse(p4.StreamResponse, it) for it in sleeper.peer.messages(sleeper.channel, NOTICES + 1)]
-    expect("what the peer was told", numbers_told(messages), list(range(first, first + NOTICES + 1)))
+    expect("what the peer was told", numbers_told(messages), list(range(sleeper.first, sleeper.first + NOTICES + 1)))
     sleeper.peer.close()
     return f"a peer with a window of 0: sent nothing, and {NOTICES + 1} notices once the window opened"
 
@@ -357,7 +364,7 @@ def run(given):
             standing.goes_on()
             call_out(told)
         for bad in (lambda: bad_datagrams(network), lambda: keeps_its_window_shut(standing),
-                    lambda: overflows(standing, network), lambda: never_reads(standing, network)):
+                    lambda: never_reads(standing, network), lambda: overflows(standing, network)):
             told = bad()
             standing.goes_on()
             call_out(told)
@@ -368,15 +375,5 @@ def run(given):
         network.close()
 
 
-def main():
-    words = argparse.ArgumentParser(description=__doc__, formatter_class=argparse.RawDescriptionHelpFormatter)
-    words.add_argument("port", type=int)
-    words.add_argument("--packets", type=int, required=True)
-    try:
-        run(words.parse_args())
-    except (Difference, grpc.RpcError, OSError) as difference:
-        sys.exit(f"rough.py: {difference}")
-
-
 if __name__ == "__main__":
-    main()
+    main(__doc__, run)

@@ -1,0 +1,117 @@
+#!/usr/bin/env python3
+"""threads.py [PROGRAM [CONFIG]] [N]
+
+Times the workers of a switch that serves, on the router of examples/programs with 1,000 routes: 1, 2 and 4 of them run
+packets of 34 bytes, each on a route of its own and all on one route, and then enter snapshots of the switch and leave
+them, beside no writer and beside one that replaces a route as fast as it can. Before that it lets three readers look at
+snapshots while a writer replaces two routes at once 100,000 times: none may be torn, and none older than the one before.
+PROGRAM is crates/desk_speed (default: the built one), which measures inside of the process, and CONFIG the router's
+(default: as `bin/p4config` makes it). Each worker runs N packets (default: 200,000) and enters 20 * N snapshots; of three
+runs the shortest counts. An entry is also told beside an uncontended addition to an atomic word in the same run. Times are
+of this machine; the ratios are what to quote, with how many hardware threads there are.
+"""
+import os
+import re
+import subprocess
+import sys
+
+from calls import tape
+from packets import HEAD
+from pipelines import ARBITRATE, VERIFY_AND_COMMIT, first_ids, long_field, number, put, route, routes
+from replay import TOP, record
+from stages import router
+
+ROUNDS = 3
+ROUTES = 1000
+WORKERS = (1, 2, 4)
+TURNS = 50000
+LOOKED = "4 calls OK, %d of the writer\n3 readers: 0 snapshots torn, 0 older than the one before, %d of %d steps seen by each\n"
+TOLD = re.compile(r"(\d+) calls OK, (\d+) workers, (\d+) .*\n(\d+) us, (\d+) calls of the writer OK, (\d+) additions in (\d+) us\n")
+ATOMIC = number(5, 2)
+
+
+def replacing(config, lane, places, port):
+    """A Write that sends these routes to another port, all at once."""
+    table, action = first_ids(config)
+    updates = [long_field(4, number(1, 2) + long_field(2, long_field(2, route(table, action, place, port)))) for place in places]
+    return record(1, lane, b"\x01" + number(1, 1) + long_field(3, number(2, 1)) + b"".join(updates) + ATOMIC)
+
+
+def packet(worker, place):
+    return record(2, worker, b"\x00\x01" + HEAD + bytes([10, 0, place, 1]))
+
+
+def opening(config, count):
+    return [ARBITRATE, put(VERIFY_AND_COMMIT, config), routes(config, count)]
+
+
+def looking(config):
+    """Three readers, whose two packets leave at one port in each state."""
+    both = (2, 3)
+    changes = [replacing(config, 0, both, 3)] + [replacing(config, 1, both, port) for port in (1, 2)]
+    return tape(opening(config, 4) + changes + [packet(reader, place) for reader in range(3) for place in both])
+
+
+def measuring(config, workers, shared, written):
+    changes = [replacing(config, 1, (ROUTES - 1,), port) for port in (1, 2)] if written else []
+    return tape(opening(config, ROUTES) + changes + [packet(w, 0 if shared else w) for w in range(workers)])
+
+
+def run(program, words, data):
+    return subprocess.run([program, *words], input=data, stdout=subprocess.PIPE, check=True).stdout.decode()
+
+
+def least(program, word, data, workers, times):
+    """The microseconds that the work took, the writer's calls a second and the microseconds of as many additions, of the shortest run."""
+    runs = []
+    for _ in range(ROUNDS):
+        ok, ran, done, took, written, _, added = map(int, TOLD.fullmatch(run(program, [word, str(times)], data)).groups())
+        if (ok, ran, done) != (3, workers, workers * times):
+            sys.exit("%d of 3 calls OK, %d of %d workers, %d of %d done" % (ok, ran, workers, done, workers * times))
+        runs.append((took, written / took * 1e6, added))
+    return min(runs)
+
+
+def beside(written, calls):
+    return "beside a writer, %.0f calls a second" % calls if written else "beside no writer"
+
+
+def packets(program, config, name, shared, times):
+    first, alone = None, {}
+    for written in (False, True):
+        for workers in WORKERS:
+            took, calls, _ = least(program, "packets", measuring(config, workers, shared, written), workers, times)
+            rate = workers * times / took * 1e6
+            first = first or rate
+            alone.setdefault(workers, rate)
+            print("%s, %d workers %s: %.0f packets a second, %.2f times one alone, %.2f of those beside no writer"
+                  % (name, workers, beside(written, calls), rate, rate / first, rate / alone[workers]), flush=True)
+
+
+def entries(program, config, times):
+    for written in (False, True):
+        for readers in WORKERS:
+            took, calls, added = least(program, "enter", measuring(config, readers, False, written), readers, times)
+            print("%d readers %s: %.1f ns an entry and leaving, %.1f times an addition of %.1f ns (at most 25 are meant)"
+                  % (readers, beside(written, calls), took / times * 1e3, took / max(added, 1), added / times * 1e3), flush=True)
+
+
+def main():
+    words = sys.argv[1:]
+    program = os.path.join(TOP, "crates/desk_speed/out/desk_speed")
+    if words and not words[0].isdigit():
+        program = words.pop(0)
+    config = open(words.pop(0), "rb").read() if words and not words[0].isdigit() else router()
+    times = int(words[0]) if words else 200000
+    print("%d hardware threads, %d routes" % (os.cpu_count(), ROUTES))
+    looked = run(program, ["look", str(TURNS)], looking(config))
+    print(looked, end="", flush=True)
+    if looked != LOOKED % (2 * TURNS, 2 * TURNS + 7, 2 * TURNS + 7):
+        sys.exit(1)
+    packets(program, config, "entries of their own", False, times)
+    packets(program, config, "all on one entry", True, times)
+    entries(program, config, 20 * times)
+
+
+if __name__ == "__main__":
+    main()

@@ -1,0 +1,4 @@
+pub mod ItemReaders
+pub mod LaneReaders
+pub mod TapeItems
+pub mod Tapes
