@@ -1,0 +1,136 @@
+#!/usr/bin/env python3
+"""configs.py [PROGRAM] [MIB ...]
+
+Times `PROGRAM check` (default: the built program) over configurations with 1, 2 and 4 MiB of JSON, the router of
+examples/programs with one list in it made long, and prints for each list the time, its ratio to that of the first
+size, and the peak memory as a multiple of the configuration's bytes. A ratio near that of the sizes shows that a
+configuration is judged in time linear in its size. Each configuration is judged to the end of the rules, but for the
+headers, of which there are more than 128 (L3): they are looked up by the rule before.
+
+Of each time the least of three runs counts. Times and memory are of this machine.
+"""
+import json
+import os
+import sys
+
+from calls import long_field
+from replay import TOP, run
+from stages import router
+
+LONGEST = 4 * 2**20
+
+
+def fields(message):
+    """The numbers and values of a message's fields."""
+    at = 0
+
+    def take():
+        nonlocal at
+        value, shift = 0, 0
+        while True:
+            byte = message[at]
+            at += 1
+            value |= (byte & 127) << shift
+            shift += 7
+            if byte < 128:
+                return value
+    while at < len(message):
+        key = take()
+        value = take()
+        if key & 7 == 2:
+            at += value
+            value = message[at - value:at]
+        yield key >> 3, value
+
+
+def filled(program, beginning, item, size):
+    """The program with items at the beginning of a list, so many that it has nearly so many bytes."""
+    place = program.index(beginning) + len(beginning)
+    room = size - len(program)
+    items, length = [], 0
+    while True:
+        next_item = item(len(items)) + b","
+        if length + len(next_item) > room:
+            break
+        items.append(next_item)
+        length += len(next_item)
+    return program[:place] + b"".join(items) + program[place:]
+
+
+def transition(i):
+    return b'{"type":"hexstr","value":"0x%04x","mask":"0xffff","next_state":"ipv4"}' % (i % 65536)
+
+
+def source(i):
+    return b'{"type":"field","value":["ipv4","ttl"]}'
+
+
+def conditional(i):
+    """One of a chain: each leads to the one before it."""
+    valid = b'{"type":"expression","value":{"op":"d2b","left":null,"right":{"type":"field","value":["ipv4","$valid$"]}}}'
+    return b'{"name":"c%d","id":0,"expression":%s,"true_next":%s,"false_next":null}' % (i, valid, b'"c%d"' % (i - 1) if i else b"null")
+
+
+def header_type(i):
+    return b'{"name":"t%d","id":0,"fields":[["f",8]]}' % i
+
+
+def header(i):
+    return b'{"name":"h%d","id":0,"header_type":"t%d","metadata":false}' % (i, i)
+
+
+def with_headers(program, size):
+    """As many bytes of header types as of headers."""
+    return filled(filled(program, b'"header_types":[', header_type, size // 2), b'"headers":[', header, size)
+
+
+def with_actions(info, program, size):
+    """A table that names its first action over and over and its last one once, and a P4Info that refers to the last as often."""
+    pairs = (size - len(program)) // 10
+    program = program.replace(b'"action_ids":[', b'"action_ids":[' + b"0," * pairs, 1)
+    program = program.replace(b'"actions":["route"', b'"actions":[' + b'"route",' * pairs + b'"route"', 1)
+    longer = b""
+    for number, value in fields(info):
+        if number == 2:
+            value += long_field(3, [ref for kind, ref in fields(value) if kind == 3][-1]) * pairs
+        longer += long_field(number, value)
+    return longer, program
+
+
+def configs(info, program, size):
+    """The name of each list, and a P4Info and a program in which it is long."""
+    yield "transitions", info, filled(program, b'"transitions":[', transition, size)
+    yield "inputs of a checksum", info, filled(program, b'"algo":"csum16","input":[', source, size)
+    yield "conditionals", info, filled(program, b'"conditionals":[', conditional, size)
+    yield "header types", info, filled(program, b'"header_types":[', header_type, size)
+    yield "headers and their types", info, with_headers(program, size)
+    yield "actions and references", *with_actions(info, program, size)
+
+
+def judged(program, config):
+    """The least time of three runs, the greatest peak, and the status."""
+    seconds, peaks, status = 1e9, 0, 0
+    for _ in range(3):
+        took, status, peak = run(program, config, ("check",))
+        if status not in (0, 8):
+            sys.exit("%s: status %d" % (program, status))
+        seconds, peaks = min(seconds, took), max(peaks, peak)
+    return seconds, peaks, status
+
+
+def main():
+    program = sys.argv[1] if len(sys.argv) > 1 else os.path.join(TOP, "crates/p4switch/out/p4switch")
+    sizes = [min(LONGEST, int(float(word) * 2**20)) for word in sys.argv[2:]] or [LONGEST // 4, LONGEST // 2, LONGEST]
+    parts = dict(fields(router()))
+    plain = json.dumps(json.loads(parts[2]), separators=(",", ":")).encode()
+    first = {}
+    for size in sizes:
+        for name, info, longer in configs(parts[1], plain, size):
+            config = long_field(1, info) + long_field(2, longer)
+            seconds, peak, status = judged(program, config)
+            print("%s, %.2f MiB: %.3f s, %.2f times the first, peak %.1f times the bytes%s"
+                  % (name, len(config) / 2**20, seconds, seconds / first.setdefault(name, seconds), peak * 1024 / len(config), " (refused)" if status else ""), flush=True)
+
+
+if __name__ == "__main__":
+    main()

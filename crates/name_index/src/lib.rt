@@ -1,0 +1,8 @@
+//! Objects found by their names, without a walk over all of them.
+#![tactic(auto)]
+
+mod labels;
+mod lookup;
+
+pub use labels::Labelled;
+pub use lookup::{Index, put_first};
