@@ -14,33 +14,11 @@ import os
 import sys
 
 from calls import long_field
+from pipelines import fields
 from replay import TOP, run
 from stages import router
 
 LONGEST = 4 * 2**20
-
-
-def fields(message):
-    """The numbers and values of a message's fields."""
-    at = 0
-
-    def take():
-        nonlocal at
-        value, shift = 0, 0
-        while True:
-            byte = message[at]
-            at += 1
-            value |= (byte & 127) << shift
-            shift += 7
-            if byte < 128:
-                return value
-    while at < len(message):
-        key = take()
-        value = take()
-        if key & 7 == 2:
-            at += value
-            value = message[at - value:at]
-        yield key >> 3, value
 
 
 def filled(program, beginning, item, size):

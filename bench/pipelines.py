@@ -39,8 +39,8 @@ def first_ids(config):
     return [member(member(member(info, kind), 1), 1) for kind in (2, 3)]
 
 
-def member(message, wanted):
-    """The first value of a field."""
+def fields(message):
+    """The numbers and values of a message's fields, in its order."""
     at = 0
 
     def take():
@@ -59,9 +59,12 @@ def member(message, wanted):
         if key & 7 == 2:
             at += value
             value = message[at - value:at]
-        if key >> 3 == wanted:
-            return value
-    return None
+        yield key >> 3, value
+
+
+def member(message, wanted):
+    """The first value of a field."""
+    return next((value for field, value in fields(message) if field == wanted), None)
 
 
 def shortest(value):
