@@ -8,7 +8,7 @@ from p4tools.scenario import Maker, make
 from p4tools.trouble import Trouble
 
 EXAMPLES = os.path.join(os.path.dirname(os.path.abspath(__file__)), "../examples")
-MADE = ["one-entry-one-packet", "batch-or-nothing", "backup-waits", "operator/routes",
+MADE = ["one-entry-one-packet", "batch-or-nothing", "backup-waits", "grpc-client", "operator/routes",
         "laboratory/version-1", "laboratory/version-2", "paths/paths"]
 
 

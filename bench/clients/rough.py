@@ -18,7 +18,11 @@ MAC = "02:00:00:00:00:03"
 KEPT = f"ipv4_lpm dst=10.1.0.0/16 route(port=3, mac={MAC})"
 TO_CONTROLLER = f"ipv4_lpm dst=10.2.0.0/16 route(port={CPU_PORT}, mac={MAC})"
 CAPABILITIES = p4.CapabilitiesResponse(p4runtime_api_version="1.3.0").SerializeToString()
-GIVEN_UP_IN = 60
+# How long, in seconds, a peer that never reads may be kept: in all, and behind the last byte that the system took for it. The switch
+# gives it up where it waited 5 seconds for the system to take one.
+GIVEN_UP_IN, KEPT_FOR = 60, (4.5, 8)
+# The state of a connection that stands, as /proc/net/tcp has it.
+ESTABLISHED = "01"
 NOTICES = 300
 # What may wait for a controller at the switch's desk, of which so many are no packets.
 MOST_THAT_WAIT, NO_PACKETS = 256, 64
@@ -314,23 +318,39 @@ def overflows(standing, network):
             "RESOURCE_EXHAUSTED, and its connection goes on")
 
 
+def bytes_kept(port, peer):
+    """How many bytes the system keeps at the switch for a peer that does not take them; None where the switch has closed
+    the connection."""
+    ends = [f":{port:04X}", f":{peer.socket.getsockname()[1]:04X}", ESTABLISHED]
+    with open("/proc/net/tcp", encoding="ascii") as it:
+        for words in map(str.split, it.readlines()[1:]):
+            if [words[1][-5:], words[2][-5:], words[3]] == ends:
+                return int(words[4].partition(":")[0], 16)
+    return None
+
+
 def never_reads(standing, network):
-    """A peer that takes none of TCP's bytes for more than five seconds is given up, and the others are told that it
-    left."""
+    """A peer of which the system takes no byte for five seconds is given up, and the others are told that it left."""
     sleeper = Sleeper(standing, narrow=True)
-    begun = time.monotonic()
+    begun = moved = time.monotonic()
+    kept = 0
     fresh = Controller(standing.port)
     while standing.controller.heard.empty():
         flood(network)
         expect("version", fresh.capabilities().p4runtime_api_version, "1.3.0")
+        now = bytes_kept(standing.port, sleeper.peer)
+        if now is not None and now != kept:
+            kept, moved = now, time.monotonic()
         if time.monotonic() > begun + GIVEN_UP_IN:
             raise Difference(f"a peer that never reads was not given up in {GIVEN_UP_IN} seconds")
+    took = time.monotonic() - moved
     fresh.close()
     standing.is_told(sleeper.first, "NOT_FOUND")
-    took = time.monotonic() - begun
+    if not KEPT_FOR[0] < took < KEPT_FOR[1]:
+        raise Difference(f"a peer that never reads was given up {took:.1f} s behind the last byte that was taken for it")
     sleeper.peer.close()
     standing.take_over(sleeper.first + 1)
-    return f"a peer that never reads: given up after {took:.1f} s, while another was answered"
+    return f"a peer that never reads: given up {took:.1f} s behind the last byte that was taken for it, while another was answered"
 
 
 def keeps_its_window_shut(standing):

@@ -1,16 +1,18 @@
 -- What holds of runs of tapes with lanes of bytes.
-use Rattle.std.specs.Prelude.{◌≡◌, ℕ, List, [], ◌∷◌, ◌++◌, map}
-use Rattle.std.specs.List.{AllByRecursion}
+use Rattle.std.specs.Prelude.{◌≡◌, ℕ, false, List, [], ◌∷◌, ◌++◌, map}
+use Rattle.std.specs.List.{AllByRecursion, filter_map, list_any}
 use Rattle.p4_types.specs.declared.events.Start.{Start}
 use Rattle.p4_types.specs.declared.journal.Entry.{Entry}
 use Rattle.p4_types.specs.declared.journal.Report.{Report}
 use Rattle.p4_types.specs.declared.tape.TapeRecord.{TapeRecord}
 use Rattle.p4_types.specs.declared.tape.TapeRecord.TheVariants.{Call, Packet, Leave, Meet}
 use Rattle.run_spec.specs.Play.{Turn, items_of, played, played_report}
+use Rattle.run_spec.specs.Report.{IsReport}
 use Rattle.run_spec.specs.ReportText.{report_text}
+use Rattle.run_counts.specs.Reading.{FiguresAreBounded}
 use Rattle.p4rt_service.specs.Turns.{Served}
 use Rattle.tape_spec.specs.declared.item.TapeItem.{TapeItem}
-use Rattle.tape_spec.specs.Items.{no_item_lanes, AreItems}
+use Rattle.tape_spec.specs.Items.{no_item_lanes, AreItems, is_piece, record_in}
 use Rattle.byte_lanes.specs.Filling.{Filled, Kept, Fed, item_of, records_of, feeds_on, greeted, Feeds, sent_lines, IsItemLockstepReport, IsItemFreeReport}
 
 -- the entries of a record's call, if it is one
@@ -47,3 +49,13 @@ FilledIsReport = (start : Start) (items : List TapeItem) (served : ℕ → Serve
 -- The report that follows the tape is one in some interleaving of its lanes, too.
 abbrev pub LockstepIsFree : Type 0
 LockstepIsFree = (start : Start) (items : List TapeItem) (text : List ℕ) → IsItemLockstepReport start items text → IsItemFreeReport start items text
+
+-- Where no lane brings bytes, a report of a run of the records is one of the tape, with the same journal and packets ..
+abbrev pub RecordsAreItems : Type 0
+RecordsAreItems = (start : Start) (items : List TapeItem) (text : List ℕ) → list_any is_piece items ≡ false → (report : IsReport start (filter_map record_in items) text) → FiguresAreBounded start report.journal report.records
+    → IsItemFreeReport start items text
+
+-- .. and one of the tape is one of a run of its records.
+abbrev pub ItemsAreRecords : Type 0
+ItemsAreRecords = (start : Start) (items : List TapeItem) (text : List ℕ) → list_any is_piece items ≡ false → IsItemFreeReport start items text
+    → (report : IsReport start (filter_map record_in items) text) × FiguresAreBounded start report.journal report.records

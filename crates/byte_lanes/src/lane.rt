@@ -1,5 +1,5 @@
 //! A lane that brings bytes.
-ghost use Rattle.std.specs.Prelude.{◌≡◌, IfOk, OnOk};
+ghost use Rattle.std.specs.Prelude.{◌≡◌, [], IfOk, OnOk};
 ghost use Rattle.byte_lanes.specs.Filling.{greeted};
 ghost use Rattle.byte_lanes.specs.Lane.{IsLane, FeedsLane, TellsLane};
 
@@ -63,10 +63,11 @@ impl ByteLane {
         Ok(())
     }
 
-    /// What the client was sent.
-    pub fn into_sent(self) -> ByteList
-        ensures { result ≡ self.sent }
+    /// What the client was sent, which the lane no longer keeps.
+    pub fn take_sent(&mut self, alloc: Global) -> ByteList
+        ensures sent { result ≡ self.old.sent }
+        ensures lane { self.new ≡ record self.old { sent = [] } }
     {
-        self.sent
+        std::mem::replace(&mut self.sent, ByteList::new(alloc))
     }
 }

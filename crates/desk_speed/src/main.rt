@@ -18,6 +18,7 @@ use asking::{Ran, Task, Work};
 use dealing::{Plan, deal};
 use list_types::NoMemory;
 use running::{nanoseconds, open_and_run};
+use std::alloc::Global;
 use std::sync::Wait;
 use std::sync::atomic::{AtomicU64, Ordering};
 use std::time::Clock;
@@ -89,6 +90,12 @@ fn tell(rt: &HostRuntime, task: Task, ran: &Ran) -> io::Result<()> {
     }
 }
 
+// What the records of a tape make of it.
+fn plan_of(alloc: Global, tape: Tape) -> Result<Plan, NoMemory> {
+    let records = tape.into_records(alloc)?;
+    deal(alloc, records.as_slice())
+}
+
 fn main(rt: HostRuntime) -> io::Result<()> {
     let mut words = env::args(&rt)?;
     let _program = words.next();
@@ -105,7 +112,7 @@ fn main(rt: HostRuntime) -> io::Result<()> {
     let Ok(tape) = Tape::read(rt.alloc(), &mut source) else {
         return println!(rt; "no tape");
     };
-    let ran = match deal(rt.alloc(), tape.records()) {
+    let ran = match plan_of(rt.alloc(), tape) {
         Ok(plan) => open_and_run(&rt, rt.alloc(), plan, task),
         Err(NoMemory) => Err(NoMemory),
     };

@@ -1,11 +1,11 @@
 -- A tape within the limits is reported, unless the source or the sink fails or memory is out.
 use Rattle.std.proofs.Common.{◌≡◌, ℕ, ◌≤◌, List, length, Option, None, Some, Ok, Err, refl, ap, ◌∙◌, sym, subst, ◌⊎◌, inl, inr, arith, length-append}
-use Rattle.p4_types.specs.declared.tape.TapeRecord.{TapeRecord}
 use Rattle.sw_edge.proofs.ToldLaws.{Consumes-all}
 use Rattle.sw_edge.specs.Counts.{Rose}
 use Rattle.sw_edge.specs.Told.{Consumes}
-use Rattle.run_spec.specs.TapeReading.{tape_at}
-use Rattle.run_spec.proofs.Tapes.{tape_is_read}
+use Rattle.tape_spec.specs.declared.item.TapeItem.{TapeItem}
+use Rattle.tape_spec.specs.Reading.{tape_at}
+use Rattle.tape_spec.proofs.Tapes.{tape_is_read}
 use Rattle.tape_form.specs.TapeRead.{IsOutcome, EndsSo, EndsWithin, judged, outcome}
 use Rattle.tape_form.specs.declared.limits.TheConstants.{MAX_TAPE, MAX_RECORDS}
 use Rattle.tape_form.specs.declared.fault.Ended.{Ended}
@@ -26,16 +26,16 @@ taken_within : (bytes : List ℕ) (new : Option (List ℕ)) (taken : List ℕ) �
 taken_within bytes None taken consumed = absurd consumed
 taken_within bytes (Some rest) taken consumed = omega (arith, ap length consumed, length-append taken rest)
 
-refuted : (bytes taken : List ℕ) (records : List TapeRecord) (new : Option (List ℕ)) (before now : ℕ) (fault : TapeFault) (ended : Ended)
-    → tape_at MAX_RECORDS bytes ≡ Ok records → length bytes ≤ MAX_TAPE → Consumes (Some bytes) new taken → (Rose before now → ⊥)
+refuted : (bytes taken : List ℕ) (items : List TapeItem) (new : Option (List ℕ)) (before now : ℕ) (fault : TapeFault) (ended : Ended)
+    → tape_at MAX_RECORDS bytes ≡ Ok items → length bytes ≤ MAX_TAPE → Consumes (Some bytes) new taken → (Rose before now → ⊥)
     → EndsSo ended new before now → EndsWithin ended taken → outcome taken ended ≡ Err fault → ⊥
-refuted bytes taken records new before now fault AtEnd read size consumed sound so within same =
+refuted bytes taken items new before now fault AtEnd read size consumed sound so within same =
     let all : taken ≡ bytes = Consumes-all bytes new taken consumed so in
-    let e : Ok records ≡ Err fault =
+    let e : Ok items ≡ Err fault =
     sym (ap (λ r. judged (length taken) AtEnd r) (ap (tape_at MAX_RECORDS) all ∙ read)) ∙ same in
     cc
-refuted bytes taken records new before now _ AtFault read size consumed sound so within same = sound so
-refuted bytes taken records new before now _ AtLimit read size consumed sound so within same =
+refuted bytes taken items new before now _ AtFault read size consumed sound so within same = sound so
+refuted bytes taken items new before now _ AtLimit read size consumed sound so within same =
     absurd (omega (arith, taken_within bytes new taken consumed, size, within))
 
 -- such a tape is not answered with a fault but that of the source
@@ -43,8 +43,8 @@ pub not_refused : (left new : Option (List ℕ)) (before now : ℕ) (fault : Tap
     → (taken : List ℕ) → Consumes left new taken → IsOutcome (Err fault) taken new before now → ⊥
 not_refused left new before now fault holds sound taken consumed h =
     let P : Option (List ℕ) → Type 0 = λ l. Consumes l new taken in
-    refuted holds.bytes taken holds.records new before now fault h.ended
-    (tape_is_read MAX_RECORDS holds.bytes holds.records holds.tape holds.count) holds.size (subst P holds.left_is consumed) sound h.so h.within h.same
+    refuted holds.bytes taken holds.items new before now fault h.ended
+    (tape_is_read MAX_RECORDS holds.bytes holds.items holds.tape holds.count) holds.size (subst P holds.left_is consumed) sound h.so h.within h.same
 
 -- the statuses that are left
 pub complete : (status : Status) (mode : Mode) (start : Start) (old new : Streams) → Answers mode start status old new → HoldsTape old.left

@@ -3,8 +3,7 @@ use Rattle.std.proofs.Common.{◌≡◌, ◌≢◌, ℕ, ◌<◌, ◌≤◌, Lis
 use Rattle.sw_edge.specs.Counts.{HasCause, Rose}
 use Rattle.sw_edge.specs.Told.{Consumes, Keeps}
 use Rattle.p4_types.specs.declared.events.Start.{Start}
-use Rattle.tape_form.proofs.Judging as judging
-use Rattle.tape_form.specs.TapeRead.{EndsWithin, IsTooLong, IsUnfinished}
+use Rattle.tape_form.specs.TapeRead.{EndsWithin, IsTooLong, IsUnfinished, HidesNothing}
 use Rattle.tape_form.specs.declared.fault.Ended.TheVariants.{AtFault, AtLimit}
 use Rattle.tape_form.specs.declared.fault.TapeFault.TheVariants as faults
 use Rattle.tape_form.specs.declared.limits.TheConstants.{MAX_TAPE}
@@ -14,7 +13,7 @@ use Rattle.p4switch_run.specs.declared.words.Job.{Job}
 use Rattle.p4switch_run.specs.declared.words.Job.TheVariants as jobs
 use Rattle.p4switch_run.specs.declared.words.Mode.{Mode}
 use Rattle.p4switch_run.specs.Command.{IsReplay, IsCheck, IsCommand, IsServe, status_number}
-use Rattle.p4switch_run.specs.Replay.{Streams, Answers, LacksMemory}
+use Rattle.p4switch_run.specs.Replay.{Streams, Answers}
 use Rattle.p4switch_run.specs.Run.{EndsBy, IsServeStatus, IsUnusedBy, NetBy, Reports, Serves, Breaks, Approves, BreaksLine, IsUnread, Misreads, Stops, Rejects, Lines, IsTold, NamesPlace, HoldsTape, HoldsBytes}
 use Rattle.p4switch_run.specs.Words.{command_of, built}
 use Rattle.p4switch_run.proofs.Completeness as completeness
@@ -64,17 +63,12 @@ none_of (Some xs) = refl
 none_taken : (o : Option (List ℕ)) (faults : ℕ) → IsUnfinished o o faults faults
 none_taken o faults = record { taken = []; consumed = none_of o; within = omega arith; sound = refl }
 
--- what want of memory leaves unsaid
-unfinished : (old new : Streams) → LacksMemory old new → IsUnfinished old.left new.left old.read_faults new.read_faults
-unfinished old new (inl read) = judging.unfinished old.left new.left old.read_faults new.read_faults read
-unfinished old new (inr whole) = record { taken = whole.1.taken; consumed = whole.1.consumed; within = whole.1.size; sound = whole.2 }
-
 pub no_memory : (o : Option Job) (status : Status) (old new : Streams) → EndsBy o status old new → status_number status ≡ 3 → IsUnfinished old.left new.left old.read_faults new.read_faults
 no_memory None status old new ends e = absurd (unlike 3 status ends.0 e (λ x. omega (arith, x)))
 no_memory (Some (jobs.Replay mode start)) statuses.Done old new ends e = absurd (omega (arith, e))
 no_memory (Some (jobs.Replay mode start)) (statuses.NotATape place) old new ends e = absurd (omega (arith, e))
 no_memory (Some (jobs.Replay mode start)) statuses.WordsRefused old new ends e = absurd (omega (arith, e))
-no_memory (Some (jobs.Replay mode start)) statuses.NoMemory old new ends e = unfinished old new ends.«because»
+no_memory (Some (jobs.Replay mode start)) statuses.NoMemory old new ends e = ends.«because».unfinished
 no_memory (Some (jobs.Replay mode start)) statuses.ReadFault old new ends e = absurd (omega (arith, e))
 no_memory (Some (jobs.Replay mode start)) statuses.WriteFault old new ends e = absurd (omega (arith, e))
 no_memory (Some (jobs.Replay mode start)) statuses.TooLong old new ends e = absurd (omega (arith, e))
@@ -90,6 +84,29 @@ no_memory (Some jobs.Check) statuses.TooLong old new ends e = absurd (omega (ari
 no_memory (Some jobs.Check) statuses.NetFault old new ends e = absurd (omega (arith, e))
 no_memory (Some jobs.Check) statuses.Refused old new ends e = absurd (omega (arith, e))
 no_memory (Some (jobs.Serve serving)) status old new ends e = let P : Streams → Type 0 = λ x. IsUnfinished old.left x.left old.read_faults x.read_faults in subst P (sym ends.1) (none_taken old.left old.read_faults)
+
+pub hides_nothing : (o : Option Job) (status : Status) (words : List (List ℕ)) (old new : Streams) → built (command_of words) ≡ o → EndsBy o status old new → status_number status ≡ 3
+    → IsCheck words ⊎ HidesNothing old.left new.left old.read_ends new.read_ends
+hides_nothing None status words old new is ends e = absurd (unlike 3 status ends.0 e (λ x. omega (arith, x)))
+hides_nothing (Some (jobs.Replay mode start)) statuses.Done words old new is ends e = absurd (omega (arith, e))
+hides_nothing (Some (jobs.Replay mode start)) (statuses.NotATape place) words old new is ends e = absurd (omega (arith, e))
+hides_nothing (Some (jobs.Replay mode start)) statuses.WordsRefused words old new is ends e = absurd (omega (arith, e))
+hides_nothing (Some (jobs.Replay mode start)) statuses.NoMemory words old new is ends e = inr ends.«because».hides_nothing
+hides_nothing (Some (jobs.Replay mode start)) statuses.ReadFault words old new is ends e = absurd (omega (arith, e))
+hides_nothing (Some (jobs.Replay mode start)) statuses.WriteFault words old new is ends e = absurd (omega (arith, e))
+hides_nothing (Some (jobs.Replay mode start)) statuses.TooLong words old new is ends e = absurd (omega (arith, e))
+hides_nothing (Some (jobs.Replay mode start)) statuses.NetFault words old new is ends e = absurd (omega (arith, e))
+hides_nothing (Some (jobs.Replay mode start)) statuses.Refused words old new is ends e = absurd (omega (arith, e))
+hides_nothing (Some jobs.Check) statuses.Done words old new is ends e = absurd (omega (arith, e))
+hides_nothing (Some jobs.Check) (statuses.NotATape place) words old new is ends e = absurd (omega (arith, e))
+hides_nothing (Some jobs.Check) statuses.WordsRefused words old new is ends e = absurd (omega (arith, e))
+hides_nothing (Some jobs.Check) statuses.NoMemory words old new is ends e = inl is
+hides_nothing (Some jobs.Check) statuses.ReadFault words old new is ends e = absurd (omega (arith, e))
+hides_nothing (Some jobs.Check) statuses.WriteFault words old new is ends e = absurd (omega (arith, e))
+hides_nothing (Some jobs.Check) statuses.TooLong words old new is ends e = absurd (omega (arith, e))
+hides_nothing (Some jobs.Check) statuses.NetFault words old new is ends e = absurd (omega (arith, e))
+hides_nothing (Some jobs.Check) statuses.Refused words old new is ends e = absurd (omega (arith, e))
+hides_nothing (Some (jobs.Serve serving)) status words old new is ends e = inr (inl (ap (λ (x : Streams). x.read_ends) ends.1))
 
 pub read_fault : (o : Option Job) (status : Status) (words : List (List ℕ)) (old new : Streams) → built (command_of words) ≡ o → EndsBy o status old new → status_number status ≡ 4 → Rose old.read_faults new.read_faults
 read_fault None status words old new is ends e = absurd (unlike 4 status ends.0 e (λ x. omega (arith, x)))

@@ -3,9 +3,6 @@ pub mod Endings
 pub mod Numbers
 pub mod Options
 pub mod ReplayLemmas
-pub mod SessionBounds
-pub mod SessionLemmas
-pub mod TallyLemmas
 pub mod TellLemmas
 pub mod Unfinished
 pub mod Serving

@@ -1,5 +1,5 @@
 -- What the end of serving says of the exit status.
-use Rattle.std.proofs.Common.{◌≡◌, ℕ, ap, refl, ◌⊎◌, inl, inr}
+use Rattle.std.proofs.Common.{◌≡◌, ℕ, ap, refl, inl, inr}
 use Rattle.sw_edge.specs.Counts.{HasCause, StaysUnless}
 use Rattle.p4switch_run.specs.Command.{end_status}
 use Rattle.p4switch_run.specs.Run.{IsServeStatus, IsServed}

@@ -3,7 +3,5 @@ pub mod Command
 pub mod Laws
 pub mod Replay
 pub mod Run
-pub mod Session
-pub mod Tallies
 pub mod Tell
 pub mod Words

@@ -1,43 +1,40 @@
 -- What each answer of a replay says of what was read and written.
-use Rattle.std.specs.Prelude.{◌≡◌, ℕ, ◌⊎◌, List, Option, Err}
-use Rattle.p4_types.specs.declared.tape.TapeRecord.{TapeRecord}
+use Rattle.std.specs.Prelude.{◌≡◌, ℕ, List, Option, Err}
 use Rattle.sw_edge.specs.Counts.{Rose}
 use Rattle.sw_edge.specs.Told.{Keeps, Appends, AppendsPrefix}
-use Rattle.run_spec.specs.Report.{IsLockstepReport}
-use Rattle.replay_run.specs.Running.{IsFreeReport}
 use Rattle.p4_types.specs.declared.events.Start.{Start}
-use Rattle.run_spec.specs.Play.{Played, played_report}
-use Rattle.run_spec.specs.ReportText.{report_text}
-use Rattle.p4switch_run.specs.Session.{IsPlayed}
-use Rattle.tape_form.specs.TapeRead.{IsReadFrom, IsWholeTape, IsBadAt, IsTooLong}
+use Rattle.tape_spec.specs.declared.item.TapeItem.{TapeItem}
+use Rattle.byte_lanes.specs.Filling.{IsItemLockstepReport, IsItemFreeReport}
+use Rattle.tape_form.specs.TapeRead.{IsReadFrom, IsWholeTape, IsUnfinished, HidesNothing, IsBadAt, IsTooLong}
 use Rattle.tape_form.specs.declared.fault.TapeFault.TheVariants as faults
 use Rattle.p4switch_run.specs.declared.status.Status.{Status}
 use Rattle.p4switch_run.specs.declared.status.Status.TheVariants as statuses
 use Rattle.p4switch_run.specs.declared.words.Mode.{Mode}
 use Rattle.p4switch_run.specs.declared.words.Mode.TheVariants as modes
 
--- the source and the sink: what is left to read, what was written, and how often each has failed
+-- the source and the sink: what is left to read, what was written, how often each has failed, and how often the source was read to its end
 pub record Streams : Type 0 where
   pub left : Option (List ℕ)
   pub sent : Option (List ℕ)
   pub read_faults : ℕ
   pub write_faults : ℕ
+  pub read_ends : ℕ
 
--- the source and the sink with this left to read and this written, which have failed so often
-abbrev pub streams : Option (List ℕ) → Option (List ℕ) → ℕ → ℕ → Streams
-streams left sent read_faults write_faults = record { left = left; sent = sent; read_faults = read_faults; write_faults = write_faults }
+-- the source and the sink with this left to read and this written, which have failed so often, the source with so many ends
+abbrev pub streams : Option (List ℕ) → Option (List ℕ) → ℕ → ℕ → ℕ → Streams
+streams left sent read_faults write_faults read_ends = record { left = left; sent = sent; read_faults = read_faults; write_faults = write_faults; read_ends = read_ends }
 
 -- The text is the report of a run of the tape: in lockstep of the one that follows the tape, else of one in some
 -- interleaving of its lanes.
-abbrev pub IsReportIn : Mode → Start → List TapeRecord → List ℕ → Type 0
-IsReportIn modes.Lockstep start records text = IsLockstepReport start records text
-IsReportIn modes.Free start records text = IsFreeReport start records text
+abbrev pub IsReportIn : Mode → Start → List TapeItem → List ℕ → Type 0
+IsReportIn modes.Lockstep start items text = IsItemLockstepReport start items text
+IsReportIn modes.Free start items text = IsItemFreeReport start items text
 
 -- The bytes that were left are a tape, all of them were taken, and the text is its report.
 pub record IsReplayed (mode : Mode) (start : Start) (old new : Option (List ℕ)) (text : List ℕ) : Type 0 where
-  pub records : List TapeRecord
-  pub whole : IsWholeTape old new records
-  pub report : IsReportIn mode start records text
+  pub items : List TapeItem
+  pub whole : IsWholeTape old new items
+  pub report : IsReportIn mode start items text
 
 -- the report was written, and neither the source nor the sink has failed
 pub record IsWritten (mode : Mode) (start : Start) (old new : Streams) : Type 0 where
@@ -65,10 +62,11 @@ pub record Nothing (old new : Streams) (cause : Type 0) : Type 0 where
   pub sound_sink : new.write_faults ≡ old.write_faults
   pub «because» : cause
 
--- There was no memory to read the tape, or to run one that was read whole. It hides no fault of the source and no byte too many;
--- where the taking broke off, a bad byte or a record too many may stand among those that were taken.
-abbrev pub LacksMemory : Streams → Streams → Type 0
-LacksMemory old new = ReadWith faults.NoMemory old new ⊎ ((records : List TapeRecord) × IsWholeTape old.left new.left records × (new.read_faults ≡ old.read_faults))
+-- There was no memory to read the tape, or to run one that was read whole. It hides no fault of the source and no byte too many; and
+-- where the source was read to its end, no bad byte and no item too many.
+pub record LacksMemory (old new : Streams) : Type 0 where
+  pub unfinished : IsUnfinished old.left new.left old.read_faults new.read_faults
+  pub hides_nothing : HidesNothing old.left new.left old.read_ends new.read_ends
 
 -- What each answer says; a replay does not refuse words. A tape that is not read is answered by the first of a bad byte,
 -- a limit and a fault, in the order of the bytes.
@@ -82,14 +80,3 @@ Answers mode start statuses.WriteFault old new = IsCutShort mode start old new
 Answers mode start statuses.TooLong old new = Nothing old new (IsTooLong old.left new.left × ReadWith faults.TooLong old new)
 Answers mode start statuses.NetFault old new = ⊥
 Answers mode start statuses.Refused old new = ⊥
-
--- the text is the report of the run of these records, one after the other
-pub record IsTextOf (start : Start) (records : List TapeRecord) (text : List ℕ) : Type 0 where
-  pub run : Played
-  pub played : IsPlayed start records run
-  pub text_is : text ≡ report_text (played_report run)
-
--- the text that a run of these records gives in this mode
-abbrev pub IsTextIn : Mode → Start → List TapeRecord → List ℕ → Type 0
-IsTextIn modes.Lockstep start records text = IsTextOf start records text
-IsTextIn modes.Free start records text = IsFreeReport start records text

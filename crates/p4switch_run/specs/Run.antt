@@ -1,10 +1,10 @@
 -- What the exit status of a run says.
 use Rattle.std.specs.Prelude.{◌≡◌, ℕ, ◌≤◌, ◌⊎◌, List, length, Option, None, Some}
 use Rattle.p4_types.specs.declared.events.Start.{Start}
-use Rattle.p4_types.specs.declared.tape.TapeRecord.{TapeRecord}
 use Rattle.sw_edge.specs.Counts.{HasCause, Rose, StaysUnless}
 use Rattle.sw_edge.specs.declared.answers.Sent.{Sent}
-use Rattle.run_spec.specs.Tape.{IsTape}
+use Rattle.tape_spec.specs.declared.item.TapeItem.{TapeItem}
+use Rattle.tape_spec.specs.Items.{IsTapeOf}
 use Rattle.tape_form.specs.TapeRead.{IsBadAt}
 use Rattle.tape_form.specs.declared.fault.Ended.{Ended}
 use Rattle.tape_form.specs.declared.fault.TapeFault.{TapeFault}
@@ -151,11 +151,11 @@ pub record NamesPlace (old new : Option (List ℕ)) (lines : Lines) : Type 0 whe
 -- what is left is told, and is a tape within the limits
 pub record HoldsTape (left : Option (List ℕ)) : Type 0 where
   pub bytes : List ℕ
-  pub records : List TapeRecord
+  pub items : List TapeItem
   pub left_is : left ≡ Some bytes
-  pub tape : IsTape bytes records
+  pub tape : IsTapeOf bytes items
   pub size : length bytes ≤ 67108864
-  pub count : length records ≤ 1000000
+  pub count : length items ≤ 1000000
 
 -- what is left is told, and is no more than a configuration may have
 pub record HoldsBytes (left : Option (List ℕ)) : Type 0 where

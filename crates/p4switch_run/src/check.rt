@@ -66,8 +66,8 @@ fn status_of(flaw: Option<ConfigRule>) -> Status
 #[tactic(auto, using(crate::proofs::Unfinished::flaw_unfinished))]
 pub fn check<S: Source, O: Sink>(alloc: Global, source: &mut S, out: &mut O) -> Status
     ensures checks { Checks result
-        (streams (S.left source.old) (O.sent out.old) (S.faults source.old) (O.faults out.old))
-        (streams (S.left source.new) (O.sent out.new) (S.faults source.new) (O.faults out.new)) }
+        (streams (S.left source.old) (O.sent out.old) (S.faults source.old) (O.faults out.old) (S.ends source.old))
+        (streams (S.left source.new) (O.sent out.new) (S.faults source.new) (O.faults out.new) (S.ends source.new)) }
     ensures reads { S.faults source.old ≤ S.faults source.new }
     ensures writes { O.faults out.old ≤ O.faults out.new }
 {

@@ -2,11 +2,9 @@
 #![tactic(auto)]
 
 mod check;
-mod journal;
 pub mod laws;
 mod program;
 mod replay;
-mod session;
 mod status;
 mod tell;
 mod words;

@@ -2,7 +2,7 @@
 ghost use Rattle.std.specs.Prelude.{◌≡◌, ◌≢◌, ◌≤◌, ◌⊎◌, map};
 ghost use Rattle.sw_edge.specs.Counts.{Rose};
 ghost use Rattle.sw_edge.specs.Told.{Keeps};
-ghost use Rattle.tape_form.specs.TapeRead.{IsTooLong, IsUnfinished};
+ghost use Rattle.tape_form.specs.TapeRead.{IsTooLong, IsUnfinished, HidesNothing};
 ghost use Rattle.p4switch_run.specs.Command.{IsCommand, IsReplay, IsCheck, IsServe};
 ghost use Rattle.p4_types.specs.declared.events.Start.{Start};
 ghost use Rattle.p4switch_run.specs.declared.words.Mode.{Mode};
@@ -31,8 +31,8 @@ fn status_of<T: Threads + Wait + Sync, S: Source, O: Sink, N: Net + Drop, K: Clo
     clock: &mut K,
 ) -> Status
     ensures ends { Ends result (map (λ word. word.now) words.now)
-        (streams (S.left tape.old) (O.sent out.old) (S.faults tape.old) (O.faults out.old))
-        (streams (S.left tape.new) (O.sent out.new) (S.faults tape.new) (O.faults out.new)) }
+        (streams (S.left tape.old) (O.sent out.old) (S.faults tape.old) (O.faults out.old) (S.ends tape.old))
+        (streams (S.left tape.new) (O.sent out.new) (S.faults tape.new) (O.faults out.new) (S.ends tape.new)) }
     ensures reads { S.faults tape.old ≤ S.faults tape.new }
     ensures writes { O.faults out.old ≤ O.faults out.new }
     ensures net_ends { NetEnds result (map (λ word. word.now) words.now) (N.ends net.old) (N.ends net.new) (N.faults net.old) (N.faults net.new) }
@@ -68,11 +68,11 @@ pub fn run<T: Threads + Wait + Sync, S: Source, O: Sink, E: Sink, N: Net + Drop,
     // 0, of a replay: the tape is read to its end, and what is written is its report. With `--lockstep` it is that of the run that
     // follows the tape, else of a run in some interleaving of the lanes.
     ensures report { result ≡ 0 → (Reports (map (λ word. word.now) words.now)
-        (streams (S.left tape.old) (O.sent out.old) (S.faults tape.old) (O.faults out.old))
-        (streams (S.left tape.new) (O.sent out.new) (S.faults tape.new) (O.faults out.new)))
+        (streams (S.left tape.old) (O.sent out.old) (S.faults tape.old) (O.faults out.old) (S.ends tape.old))
+        (streams (S.left tape.new) (O.sent out.new) (S.faults tape.new) (O.faults out.new) (S.ends tape.new)))
         ⊎ ((Approves (map (λ word. word.now) words.now)
-        (streams (S.left tape.old) (O.sent out.old) (S.faults tape.old) (O.faults out.old))
-        (streams (S.left tape.new) (O.sent out.new) (S.faults tape.new) (O.faults out.new)))
+        (streams (S.left tape.old) (O.sent out.old) (S.faults tape.old) (O.faults out.old) (S.ends tape.old))
+        (streams (S.left tape.new) (O.sent out.new) (S.faults tape.new) (O.faults out.new) (S.ends tape.new)))
         ⊎ Serves (map (λ word. word.now) words.now) (N.ends net.old) (N.ends net.new)) }
 
     // 1: the bytes are no tape, and the line names the place behind which they are none.
@@ -82,11 +82,13 @@ pub fn run<T: Threads + Wait + Sync, S: Source, O: Sink, E: Sink, N: Net + Drop,
     // 2: the words are no command that is built, and only then.
     ensures refused { result ≡ 2 → IsCommand (map (λ word. word.now) words.now) → ⊥ }
     ensures command { result ≢ 2 → IsCommand (map (λ word. word.now) words.now) }
-    ensures untouched { result ≡ 2 → streams (S.left tape.new) (O.sent out.new) (S.faults tape.new) (O.faults out.new)
-        ≡ streams (S.left tape.old) (O.sent out.old) (S.faults tape.old) (O.faults out.old) }
+    ensures untouched { result ≡ 2 → streams (S.left tape.new) (O.sent out.new) (S.faults tape.new) (O.faults out.new) (S.ends tape.new)
+        ≡ streams (S.left tape.old) (O.sent out.old) (S.faults tape.old) (O.faults out.old) (S.ends tape.old) }
 
-    // 3: there was no memory. The source has not failed, and no more was taken of it than a tape or a configuration may have.
+    // 3: there was no memory. The source has not failed, and no more was taken of it than a tape or a configuration may have; and where
+    // the source of a tape was read to its end, what was taken is a tape.
     ensures no_memory { result ≡ 3 → IsUnfinished (S.left tape.old) (S.left tape.new) (S.faults tape.old) (S.faults tape.new) }
+    ensures hides_nothing { result ≡ 3 → (IsCheck (map (λ word. word.now) words.now)) ⊎ HidesNothing (S.left tape.old) (S.left tape.new) (S.ends tape.old) (S.ends tape.new) }
 
     // 4: the source failed.
     ensures read_fault { result ≡ 4 → Rose (S.faults tape.old) (S.faults tape.new) }
@@ -94,27 +96,27 @@ pub fn run<T: Threads + Wait + Sync, S: Source, O: Sink, E: Sink, N: Net + Drop,
     // 5: the sink failed, and some first bytes of the report were written. With any other status it has not failed.
     ensures no_write_fault { result ≢ 5 → O.faults out.new ≡ O.faults out.old }
     ensures write_fault { result ≡ 5 → (Breaks (map (λ word. word.now) words.now)
-        (streams (S.left tape.old) (O.sent out.old) (S.faults tape.old) (O.faults out.old))
-        (streams (S.left tape.new) (O.sent out.new) (S.faults tape.new) (O.faults out.new)))
+        (streams (S.left tape.old) (O.sent out.old) (S.faults tape.old) (O.faults out.old) (S.ends tape.old))
+        (streams (S.left tape.new) (O.sent out.new) (S.faults tape.new) (O.faults out.new) (S.ends tape.new)))
         ⊎ (BreaksLine (map (λ word. word.now) words.now)
-        (streams (S.left tape.old) (O.sent out.old) (S.faults tape.old) (O.faults out.old))
-        (streams (S.left tape.new) (O.sent out.new) (S.faults tape.new) (O.faults out.new))) }
+        (streams (S.left tape.old) (O.sent out.old) (S.faults tape.old) (O.faults out.old) (S.ends tape.old))
+        (streams (S.left tape.new) (O.sent out.new) (S.faults tape.new) (O.faults out.new) (S.ends tape.new))) }
 
     // 6: there are more bytes or records than a tape may have.
     ensures too_long { result ≡ 6 → IsTooLong (S.left tape.old) (S.left tape.new) }
 
     // 1, 4 and 6: which of them comes is said by what was taken of the source, and by how the taking ended.
     ensures first { IsUnread result → (Misreads result (map (λ word. word.now) words.now)
-        (streams (S.left tape.old) (O.sent out.old) (S.faults tape.old) (O.faults out.old))
-        (streams (S.left tape.new) (O.sent out.new) (S.faults tape.new) (O.faults out.new)))
+        (streams (S.left tape.old) (O.sent out.old) (S.faults tape.old) (O.faults out.old) (S.ends tape.old))
+        (streams (S.left tape.new) (O.sent out.new) (S.faults tape.new) (O.faults out.new) (S.ends tape.new)))
         ⊎ (Stops result (map (λ word. word.now) words.now)
-        (streams (S.left tape.old) (O.sent out.old) (S.faults tape.old) (O.faults out.old))
-        (streams (S.left tape.new) (O.sent out.new) (S.faults tape.new) (O.faults out.new))) }
+        (streams (S.left tape.old) (O.sent out.old) (S.faults tape.old) (O.faults out.old) (S.ends tape.old))
+        (streams (S.left tape.new) (O.sent out.new) (S.faults tape.new) (O.faults out.new) (S.ends tape.new))) }
 
     // 8: the configuration is read to its end, and the first rule that it breaks is written.
     ensures flawed { result ≡ 8 → Rejects (map (λ word. word.now) words.now)
-        (streams (S.left tape.old) (O.sent out.old) (S.faults tape.old) (O.faults out.old))
-        (streams (S.left tape.new) (O.sent out.new) (S.faults tape.new) (O.faults out.new)) }
+        (streams (S.left tape.old) (O.sent out.old) (S.faults tape.old) (O.faults out.old) (S.ends tape.old))
+        (streams (S.left tape.new) (O.sent out.new) (S.faults tape.new) (O.faults out.new) (S.ends tape.new)) }
 
     // 0, of serving: the net ended. With any other status it has not ended.
     ensures no_net_end { result ≢ 0 → N.ends net.new ≡ N.ends net.old }
@@ -124,8 +126,8 @@ pub fn run<T: Threads + Wait + Sync, S: Source, O: Sink, E: Sink, N: Net + Drop,
     ensures no_net_fault { result ≢ 7 → N.faults net.new ≡ N.faults net.old }
 
     // Serving reads and writes nothing beside the net, and nothing else uses net or clock.
-    ensures left_alone { IsServe (map (λ word. word.now) words.now) → streams (S.left tape.new) (O.sent out.new) (S.faults tape.new) (O.faults out.new)
-        ≡ streams (S.left tape.old) (O.sent out.old) (S.faults tape.old) (O.faults out.old) }
+    ensures left_alone { IsServe (map (λ word. word.now) words.now) → streams (S.left tape.new) (O.sent out.new) (S.faults tape.new) (O.faults out.new) (S.ends tape.new)
+        ≡ streams (S.left tape.old) (O.sent out.old) (S.faults tape.old) (O.faults out.old) (S.ends tape.old) }
     ensures net { (IsServe (map (λ word. word.now) words.now) → ⊥) → net.new ≡ net.old }
     ensures clock { (IsServe (map (λ word. word.now) words.now) → ⊥) → clock.new ≡ clock.old }
 

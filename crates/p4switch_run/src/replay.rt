@@ -1,68 +1,48 @@
 //! A tape is read, run and reported.
-ghost use Rattle.std.specs.Prelude.{◌≡◌, ◌≤◌, IfOk, length, All};
-ghost use Rattle.std.specs.List.{AllByRecursion};
-ghost use Rattle.replay_run.specs.Running.{IsFreeReport};
-ghost use Rattle.run_spec.specs.Tape.{IsRecord};
-ghost use Rattle.run_spec.specs.Play.{begun};
-ghost use Rattle.p4switch_run.specs.Session.{played_of, IsSession};
-ghost use Rattle.p4switch_run.specs.Replay.{Answers, IsTextIn, IsTextOf, streams};
+ghost use Rattle.std.specs.Prelude.{◌≤◌, IfOk, All};
+ghost use Rattle.tape_spec.specs.Items.{IsItem, AreItems, no_item_lanes};
+ghost use Rattle.byte_lanes.specs.Filling.{IsItemLockstepReport, IsItemFreeReport};
+ghost use Rattle.p4switch_run.specs.Replay.{Answers, IsReportIn, streams};
 
-use crate::session::{Session, play_each};
 use crate::status::Status;
 use crate::words::Mode;
-use list_types::{ByteList, List, NoMemory};
+use list_types::{ByteList, NoMemory};
+use lockstep_run::play;
 use p4_types::events::Start;
 use replay_run::{Freely, replay_free};
 use std::alloc::Global;
 use std::sync::Wait;
 use std::thread::Threads;
 use sw_edge::{Sent, Sink, Source};
-use tape_form::{Tape, TapeRecord};
+use tape_form::{Tape, report_text};
+use tape_spec::TapeItem;
 
-// The report's text of the run of these records by a session that has begun.
-fn text_by(
-    alloc: Global,
-    start: Start,
-    items: &[TapeRecord],
-    session: &mut Session,
-) -> Result<ByteList, NoMemory>
-    requires each { All IsRecord items.now }
-    requires number { length items.now ≤ 1000000 }
-    requires begun { played_of session.old ≡ begun start }
-    requires session { IsSession session.old }
-    ensures { IfOk result (IsTextOf start items.now) }
+// The report's text of the run of these items, one after the other.
+fn text_in_order(alloc: Global, start: Start, items: &[TapeItem]) -> Result<ByteList, NoMemory>
+    requires each { All IsItem items.now }
+    requires stand { AreItems no_item_lanes items.now }
+    ensures { IfOk result (IsItemLockstepReport start items.now) }
 {
-    play_each(alloc, start, items, session)?;
-    let report = session.finish(alloc)?;
-    tape_form::report_text(alloc, &report)
+    let report = play(alloc, start, items)?;
+    report_text(alloc, &report)
 }
 
-// The report's text of the run of these records, one after the other.
-fn text_in_lockstep(alloc: Global, start: Start, items: &[TapeRecord]) -> Result<ByteList, NoMemory>
-    requires each { All IsRecord items.now }
-    requires number { length items.now ≤ 1000000 }
-    ensures { IfOk result (IsTextOf start items.now) }
-{
-    let mut session = Session::open(alloc, start)?;
-    let text = text_by(alloc, start, items, &mut session);
-    // where it went out of scope by itself, all that it owns would be part of this proof
-    drop(session);
-    text
-}
-
-// The report's text of a run of these records with a thread for each lane.
+// The report's text of a run of a tape in some interleaving of its lanes: each lane has a thread, unless one brings bytes; such a tape is
+// run in its order.
 fn text_freely<T: Threads + Wait + Sync>(
     rt: &T,
     alloc: Global,
     start: Start,
-    items: List<TapeRecord>,
+    tape: Tape,
 ) -> Result<ByteList, NoMemory>
-    requires each { AllByRecursion IsRecord items }
-    requires number { length items ≤ 1000000 }
-    ensures { IfOk result (IsFreeReport start items) }
+    ensures { IfOk result (IsItemFreeReport start tape) }
 {
-    let report = replay_free(rt, alloc, &Freely, start, items)?;
-    tape_form::report_text(alloc, &report)
+    if tape.brings_bytes() {
+        return text_in_order(alloc, start, tape.items());
+    }
+    let records = tape.into_records(alloc)?;
+    let report = replay_free(rt, alloc, &Freely, start, records)?;
+    report_text(alloc, &report)
 }
 
 // The report's text of a run of a tape.
@@ -73,11 +53,11 @@ fn text_of<T: Threads + Wait + Sync>(
     start: Start,
     tape: Tape,
 ) -> Result<ByteList, NoMemory>
-    ensures { IfOk result (IsTextIn mode start tape) }
+    ensures { IfOk result (IsReportIn mode start tape) }
 {
     match mode {
-        Mode::Lockstep => text_in_lockstep(alloc, start, tape.records()),
-        Mode::Free => text_freely(rt, alloc, start, tape.into_records()),
+        Mode::Lockstep => text_in_order(alloc, start, tape.items()),
+        Mode::Free => text_freely(rt, alloc, start, tape),
     }
 }
 
@@ -91,8 +71,8 @@ pub fn replay<T: Threads + Wait + Sync, S: Source, O: Sink>(
     out: &mut O,
 ) -> Status
     ensures answers { Answers mode start result
-        (streams (S.left tape.old) (O.sent out.old) (S.faults tape.old) (O.faults out.old))
-        (streams (S.left tape.new) (O.sent out.new) (S.faults tape.new) (O.faults out.new)) }
+        (streams (S.left tape.old) (O.sent out.old) (S.faults tape.old) (O.faults out.old) (S.ends tape.old))
+        (streams (S.left tape.new) (O.sent out.new) (S.faults tape.new) (O.faults out.new) (S.ends tape.new)) }
     ensures reads { S.faults tape.old ≤ S.faults tape.new }
     ensures writes { O.faults out.old ≤ O.faults out.new }
 {

@@ -8,6 +8,9 @@ use std::io::{self, ErrorKind};
 // How often a call that a signal cut short is tried.
 pub const TRIES: u32 = 1024;
 
+// How often, one behind the other, a write may wait in vain before it is given up.
+pub const WAITS: u32 = 50;
+
 // Why a call of the system did not do what it was asked.
 #[derive(Clone, Copy)]
 pub enum Trouble {

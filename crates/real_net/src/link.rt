@@ -3,17 +3,18 @@ ghost use Rattle.std.specs.Prelude.{◌≡◌, ◌+◌, ◌<◌, ◌≤◌, None
 ghost use Rattle.sw_edge.specs.Answers.{PullFits, Pulls, Sends};
 ghost use Rattle.sw_edge.specs.Counts.{HasCause, StaysUnless};
 ghost use Rattle.real_net.specs.Attempts.{IsTriedBy, given};
-ghost use Rattle.real_net.specs.Links.{HeldLink, pulled_of, IsPulledBy, IsPushedBy};
+ghost use Rattle.real_net.specs.Links.{HeldLink, pulled_of, IsPulledBy, IsWrittenBy, IsPushedBy};
 
-use crate::attempts::{TRIES, Trouble, judged};
+use crate::attempts::{TRIES, Trouble, WAITS, judged};
 use crate::count::raise;
 use crate::system::Stream;
 use std::marker::Model;
 use sw_edge::{Link, Pulled, Sent};
 
 /// A link over a stream, as of TCP, which tells what the stream tells and no content. A pull that waits longer than the
-/// stream lets it (50 milliseconds over TCP) is Quiet. A push of which the stream takes no byte for as long as it lets it
-/// (5 seconds over TCP) fails, and so does each other error.
+/// stream lets it (50 milliseconds over TCP) is Quiet. A push fails where 50 writes, one behind the other, wait as long as the
+/// stream lets them (100 milliseconds over TCP) and it takes no byte in them: over TCP a peer that takes nothing is given
+/// up 5 seconds behind the last byte that was taken, one that takes some is waited for. So does a push at each other error.
 #[derive(Drop)]
 pub struct RealLink<S> {
     stream: S,
@@ -83,17 +84,32 @@ fn write_some<S: Stream>(stream: &mut S, bytes: &[u8]) -> Result<usize, Trouble>
     Err(Trouble::CutShort)
 }
 
+// Writes some of the bytes, or gives up where the writes waited in vain too often.
+#[tactic(auto, using(crate::proofs::TryLaws::waited_more))]
+fn write_patiently<S: Stream>(stream: &mut S, bytes: &[u8]) -> Result<usize, Trouble>
+    ensures bound { IfOk result (λ count. count ≤ length bytes.now) }
+    ensures told { IsWrittenBy (S.writes bytes.now) TRIES WAITS stream.old stream.new result }
+{
+    for _ in 0..WAITS {
+        match write_some(stream, bytes) {
+            Err(Trouble::TimedOut) => {}
+            told => return told,
+        }
+    }
+    Err(Trouble::TimedOut)
+}
+
 // Writes all of the bytes, or as many as are taken before a write gives up.
 #[tactic(auto, using(crate::proofs::TryLaws::took_more))]
 fn write_all<S: Stream>(stream: &mut S, bytes: &[u8]) -> Sent
-    ensures { IsPushedBy S.writes TRIES stream.old stream.new bytes.now result }
+    ensures { IsPushedBy S.writes TRIES WAITS stream.old stream.new bytes.now result }
 {
     let mut done = 0;
     for _ in 0..bytes.len() {
         if done == bytes.len() {
             return Sent::All;
         }
-        match write_some(stream, &bytes[done..]) {
+        match write_patiently(stream, &bytes[done..]) {
             Ok(count) if count > 0 => done += count,
             _ => return Sent::Failed,
         }
@@ -142,8 +158,8 @@ impl<S: Stream> Link for RealLink<S> {
         ensures quiet { self.new.quiets ≡ self.old.quiets }
         ensures end { self.new.ends ≡ self.old.ends }
 
-        // The bytes are tried until all are taken or the stream takes no more.
-        ensures told { IsPushedBy S.writes TRIES self.old.stream self.new.stream bytes.now result }
+        // The bytes are tried until all are taken or the stream takes no more, be it that it takes none in as many waits as may be.
+        ensures told { IsPushedBy S.writes TRIES WAITS self.old.stream self.new.stream bytes.now result }
     {
         let told = write_all(&mut self.stream, bytes);
         if let Sent::Failed = told {

@@ -1,6 +1,7 @@
 // The system's TCP and UDP on 127.0.0.1.
 ghost use Rattle.std.specs.Prelude.{⊤};
 
+use crate::attempts::WAITS;
 use crate::system::{Datagrams, Listener, Network, Stream};
 use std::io::{self, Read, Write};
 use std::net::{self, Ipv4Addr, SocketAddr, TcpListener, TcpStream, UdpSocket};
@@ -10,8 +11,11 @@ use std::time::Duration;
 // How long a read, a receive and an accept wait, in milliseconds.
 const WAIT: u64 = 50;
 
-// How long a write and a send wait where the peer takes nothing, in milliseconds.
+// How long a send waits, and all the waits together of a write of which the peer takes nothing, in milliseconds.
 const PATIENCE: u64 = 5_000;
+
+// How long one write waits, in milliseconds.
+const WRITE_WAIT: u64 = PATIENCE / WAITS as u64;
 
 fn after(milliseconds: u64) -> Option<Duration> {
     Some(Duration::from_millis(milliseconds))
@@ -64,7 +68,7 @@ impl Listener for TcpListener {
         let (stream, _) = self.accept()?;
         stream.set_nodelay(true)?;
         stream.set_read_timeout(after(WAIT))?;
-        stream.set_write_timeout(after(PATIENCE))?;
+        stream.set_write_timeout(after(WRITE_WAIT))?;
         Ok(stream)
     }
 }

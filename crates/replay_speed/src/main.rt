@@ -55,7 +55,7 @@ fn measured<R: Threads + Wait + Clock + Sync>(
     tape: Tape,
 ) -> Result<Figures, Failure> {
     let before = rt.monotonic()?.as_nanos();
-    let report = replay_free(rt, alloc, &Freely, START, tape.into_records())?;
+    let report = replay_free(rt, alloc, &Freely, START, tape.into_records(alloc)?)?;
     let between = rt.monotonic()?.as_nanos();
     let text = report_text(alloc, &report)?;
     let after = rt.monotonic()?.as_nanos();

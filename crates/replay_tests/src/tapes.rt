@@ -67,5 +67,5 @@ pub(crate) fn run<T: Threads + Wait + Sync, G: Gate + Sync>(
     let Ok(tape) = Tape::read(alloc, &mut source) else {
         return Err("not a tape".into());
     };
-    Ok(replay_free(rt, alloc, gate, BRIDGE, tape.into_records())?)
+    Ok(replay_free(rt, alloc, gate, BRIDGE, tape.into_records(alloc)?)?)
 }

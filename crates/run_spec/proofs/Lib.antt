@@ -4,8 +4,5 @@ pub mod Following
 pub mod Meeting
 pub mod Playing
 pub mod Readers
-pub mod Standing
 pub mod TapeItems
-pub mod TapeRecords
-pub mod Tapes
 pub mod WorkedRows

@@ -3,6 +3,5 @@ pub mod Report
 pub mod ReportText
 pub mod Rows
 pub mod Tape
-pub mod TapeLaws
 pub mod TapeReading
 pub mod Text

@@ -1,5 +1,5 @@
--- The grammar of tapes (this project's profile).
-use Rattle.std.specs.Prelude.{◌≡◌, ℕ, ◌+◌, ◌<◌, ◌≤◌, ◌^◌, ◌==◌, Bool, true, false, if◌then◌else◌, List, [], ◌∷◌, ◌++◌, length, take, codes}
+-- How records stand on a tape, and where (this project's profile).
+use Rattle.std.specs.Prelude.{◌≡◌, ℕ, ◌+◌, ◌<◌, ◌≤◌, ◌^◌, ◌==◌, Bool, true, false, if◌then◌else◌, List, [], ◌∷◌, ◌++◌, length, codes}
 use Rattle.std.specs.List.{flat_map}
 use Rattle.std.specs.Int.{w16, w32, to_be_bytes}
 use Rattle.p4_types.specs.declared.calls.Method.{Method}
@@ -92,11 +92,6 @@ abbrev pub NameMade : Lanes → List TapeRecord → Type 0
 NameMade lanes [] = Unit {0}
 NameMade lanes (item ∷ items) = HasMade lanes item × NameMade (lanes_after lanes item) items
 
--- each record may stand behind those before it
-abbrev pub AreRecords : Lanes → List TapeRecord → Type 0
-AreRecords lanes [] = Unit {0}
-AreRecords lanes (item ∷ items) = MayStand lanes item × AreRecords (lanes_after lanes item) items
-
 -- the bytes with which each tape begins
 abbrev pub magic : List ℕ
 magic = codes "P4TAPE1\n"
@@ -108,24 +103,3 @@ end_bytes = framed 0 0 []
 -- the bytes of the tape of these records
 abbrev pub tape_bytes : List TapeRecord → List ℕ
 tape_bytes records = magic ++ (flat_map record_bytes records ++ end_bytes)
-
--- the bytes are the tape of these records
-pub record IsTape (bytes : List ℕ) (records : List TapeRecord) : Type 0 where
-  pub spelled : bytes ≡ tape_bytes records
-  pub each : AreRecords no_lanes records
-
--- some tape begins with these bytes
-pub record BeginsTape (bytes : List ℕ) : Type 0 where
-  pub records : List TapeRecord
-  pub more : List ℕ
-  pub tape : IsTape (bytes ++ more) records
-
--- n is the length of the longest front of the bytes with which some tape begins
-pub record IsLongestBeginning (bytes : List ℕ) (n : ℕ) : Type 0 where
-  pub within : n ≤ length bytes
-  pub begins : BeginsTape (take n bytes)
-  pub longest : (m : ℕ) → n < m → m ≤ length bytes → BeginsTape (take m bytes) → ⊥
-
--- no tape is the front of another
-abbrev pub NoTapeBeginsAnother : Type 0
-NoTapeBeginsAnother = (bytes more : List ℕ) (xs ys : List TapeRecord) → IsTape bytes xs → IsTape (bytes ++ more) ys → (more ≡ []) × (xs ≡ ys)

@@ -1,18 +1,11 @@
--- A tape read from left to right. An error says how many bytes are left from the first bad byte on; 0 says that bytes are missing.
+-- Records of a tape read from left to right. An error says how many bytes are left from the first bad byte on; 0 says that bytes are missing.
 use Rattle.std.specs.Prelude.{ℕ, zero, suc, ◌+◌, ◌-◌, ◌*◌, ◌^◌, min, nat_lt, nat_le, ◌==◌, ◌||◌, ◌&&◌, Bool, false, if◌then◌else◌, List, [], ◌∷◌, length, take, drop, Option, Some, None, Result, Ok, Err}
 use Rattle.p4_types.specs.declared.calls.Method.{Method}
 use Rattle.p4_types.specs.declared.calls.Method.TheVariants as methods
 use Rattle.p4_types.specs.declared.tape.TapeRecord.{TapeRecord}
 use Rattle.p4_types.specs.declared.tape.TapeRecord.TheVariants.{Call, Packet, Leave, Meet}
 use Rattle.wire_fields.specs.Reading.{◌>>=◌}
-use Rattle.run_spec.specs.Tape.{Lanes, no_lanes, lanes_after, magic}
-
--- what keeps bytes from being a tape within the limit of records, and how many bytes are left from there on
-pub data Flaw : Type 0 where
-  -- the first byte with which no tape goes on
-  Bad : (left : ℕ) → Flaw
-  -- the first byte of a record past the limit
-  TooMany : (left : ℕ) → Flaw
+use Rattle.run_spec.specs.Tape.{Lanes}
 
 -- A big-endian number of so many bytes, at least low and at most high, and the bytes after it. A byte is bad
 -- as soon as no number of that range begins with the bytes up to it.
@@ -112,40 +105,3 @@ item_at lanes (kind ∷ bytes) =
     else if kind == 4 then (leave_at bytes >>= λ x. Ok (Some x.0, x.1))
     else if kind == 5 && some_called 32 lanes then (meet_at lanes bytes >>= λ x. Ok (Some x.0, x.1))
     else Err (length (kind ∷ bytes))
-
--- an error of a reader as a flaw
-abbrev pub or_bad : {A : Type 0} → Result A ℕ → Result A Flaw
-or_bad (Ok x) = Ok x
-or_bad (Err left) = Err (Bad left)
-
--- whether a byte is the kind of a record that the limit counts
-abbrev pub is_counted : ℕ → Bool
-is_counted kind = nat_le 1 kind && nat_le kind 5
-
--- a record of a kind that is counted begins
-abbrev pub begins_counted : List ℕ → Bool
-begins_counted [] = nat_lt 0 0
-begins_counted (kind ∷ bytes) = is_counted kind
-
--- a record beyond the limit is a flaw at its first byte, also one of a kind that may not stand there
-abbrev pub item_within : ℕ → Lanes → List ℕ → Result (Option TapeRecord × List ℕ) Flaw
-item_within zero lanes bytes = if begins_counted bytes then Err (TooMany (length bytes)) else or_bad (item_at lanes bytes)
-item_within (suc k) lanes bytes = or_bad (item_at lanes bytes)
-
--- nothing stands behind the end record
-abbrev pub nothing_after : List ℕ → Result (List TapeRecord) Flaw
-nothing_after [] = Ok []
-nothing_after (b ∷ rest) = Err (Bad (length (b ∷ rest)))
-
--- with one more at the front
-abbrev pub with_first : TapeRecord → Result (List TapeRecord) Flaw → Result (List TapeRecord) Flaw
-with_first first read = read >>= λ others. Ok (first ∷ others)
-
--- at most so many records, the end record, and nothing behind it, where the lanes are so
-unfoldable pub records_at : ℕ → Lanes → List ℕ → Result (List TapeRecord) Flaw
-records_at zero lanes bytes = item_within 0 lanes bytes >>= λ x. nothing_after x.1
-records_at (suc k) lanes bytes = item_within (suc k) lanes bytes >>= λ x. elim x.0 [ None ↦ nothing_after x.1 | Some first ↦ with_first first (records_at k (lanes_after lanes first) x.1) ]
-
--- the records of a tape of at most so many
-unfoldable pub tape_at : ℕ → List ℕ → Result (List TapeRecord) Flaw
-tape_at limit bytes = or_bad (text_at magic bytes) >>= records_at limit no_lanes

@@ -30,11 +30,12 @@ pub record Written : Type 0 where
   pub sent : List ℕ
   pub room : ℕ
 
--- a source: what is left, which reads fail, and how many did
+-- a source: what is left, which reads fail, how many did, and how many met the end
 pub record HeldSource : Type 0 where
   pub unread : Unread
   pub failing : Picked
   pub faults : ℕ
+  pub ends : ℕ
 
 -- a sink: what was sent, which writes fail, and how many did
 pub record HeldSink : Type 0 where

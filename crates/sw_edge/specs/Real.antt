@@ -11,8 +11,14 @@ use Rattle.sw_edge.specs.declared.answers.Got.TheVariants as got
 use Rattle.sw_edge.specs.declared.answers.Sent.{Sent}
 use Rattle.sw_edge.specs.declared.answers.Sent.TheVariants as sent
 
--- a stream, and how often it failed
-pub record Metered (S : Type 0) : Type 0 where
+-- a stream that is read, and how often it failed and met its end
+pub record MeteredReader (S : Type 0) : Type 0 where
+  pub stream : S
+  pub faults : ℕ
+  pub ends : ℕ
+
+-- a stream that is written, and how often it failed
+pub record MeteredWriter (S : Type 0) : Type 0 where
   pub stream : S
   pub faults : ℕ
 

@@ -16,12 +16,13 @@ pub struct MemorySource {
     unread: Pieces,
     failing: Picks,
     faults: u64,
+    ends: u64,
 }
 
 impl Model for MemorySource {
     ghost Value = { HeldSource };
 
-    ghost view = { λ s. record { unread = s.unread; failing = s.failing; faults = s.faults } };
+    ghost view = { λ s. record { unread = s.unread; failing = s.failing; faults = s.faults; ends = s.ends } };
 }
 
 impl MemorySource {
@@ -30,6 +31,7 @@ impl MemorySource {
         ensures left { result.unread.left ≡ bytes.items }
         ensures failing { result.failing ≡ picks failing.items }
         ensures faults { result.faults ≡ 0 }
+        ensures ends { result.ends ≡ 0 }
     {
         MemorySource::in_pieces(bytes, usize::MAX, failing)
     }
@@ -40,11 +42,13 @@ impl MemorySource {
         ensures left { result.unread ≡ record { left = bytes.items; piece = piece } }
         ensures failing { result.failing ≡ picks failing.items }
         ensures faults { result.faults ≡ 0 }
+        ensures ends { result.ends ≡ 0 }
     {
         MemorySource {
             unread: Pieces::new(bytes, piece),
             failing: Picks::new(failing),
             faults: 0,
+            ends: 0,
         }
     }
 }
@@ -54,12 +58,16 @@ impl Source for MemorySource {
 
     ghost faults = { λ s. s.faults };
 
+    ghost ends = { λ s. s.ends };
+
     fn read(&mut self, buf: &mut [u8]) -> Got
         requires { 0 < length buf.old }
         ensures fits { Fits result buf.new }
         ensures takes { Takes (Some self.old.unread.left) (Some self.new.unread.left) result buf.new }
         ensures failed { HasCause self.old.faults self.new.faults (result ≡ Got.Failed) }
         ensures no_fault { StaysUnless self.old.faults self.new.faults (result ≡ Got.Failed) }
+        ensures end { HasCause self.old.ends self.new.ends (result ≡ Got.End) }
+        ensures no_end { StaysUnless self.old.ends self.new.ends (result ≡ Got.End) }
 
         // It fails where it is told to, and nowhere else.
         ensures picked { (result ≡ Got.Failed) ↔ IsTrue (is_next self.old.failing) }
@@ -73,7 +81,10 @@ impl Source for MemorySource {
             return Got::Failed;
         }
         match self.unread.read_into(buf) {
-            0 => Got::End,
+            0 => {
+                raise(&mut self.ends);
+                Got::End
+            }
             n => Got::Bytes(n),
         }
     }

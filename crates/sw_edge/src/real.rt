@@ -3,7 +3,7 @@ ghost use Rattle.std.specs.Prelude.{◌≡◌, ◌-◌, ◌^◌, ◌<◌, ◌≤
 ghost use Rattle.std.specs.Io.KnownBytes.{Appends};
 ghost use Rattle.sw_edge.specs.Answers.{Fits, Takes, Sends};
 ghost use Rattle.sw_edge.specs.Counts.{HasCause, StaysUnless};
-ghost use Rattle.sw_edge.specs.Real.{Metered, Timed, IsReadBy, IsWrittenBy, IsSentBy, IsTimedBy};
+ghost use Rattle.sw_edge.specs.Real.{MeteredReader, MeteredWriter, Timed, IsReadBy, IsWrittenBy, IsSentBy, IsTimedBy};
 
 use crate::attempts::{moment, sent_by, taken_by, told_by};
 use crate::count::raise;
@@ -19,20 +19,26 @@ const TRIES: u32 = 1024;
 pub struct RealSource<R> {
     reader: R,
     faults: u64,
+    ends: u64,
 }
 
 impl<R> Model for RealSource<R> {
-    ghost Value = { Metered R };
+    ghost Value = { MeteredReader R };
 
-    ghost view = { λ s. record { stream = s.reader; faults = s.faults } };
+    ghost view = { λ s. record { stream = s.reader; faults = s.faults; ends = s.ends } };
 }
 
 impl<R> RealSource<R> {
     pub fn new(reader: R) -> RealSource<R>
         ensures stream { result.stream ≡ reader }
         ensures faults { result.faults ≡ 0 }
+        ensures ends { result.ends ≡ 0 }
     {
-        RealSource { reader, faults: 0 }
+        RealSource {
+            reader,
+            faults: 0,
+            ends: 0,
+        }
     }
 }
 
@@ -58,6 +64,8 @@ impl<R: Reader> Source for RealSource<R> {
 
     ghost faults = { λ s. s.faults };
 
+    ghost ends = { λ s. s.ends };
+
     #[tactic(auto, using(crate::proofs::RealLaws::streams))]
     fn read(&mut self, buf: &mut [u8]) -> Got
         requires { 0 < length buf.old }
@@ -65,13 +73,17 @@ impl<R: Reader> Source for RealSource<R> {
         ensures takes { Takes (R.remaining self.old.stream) (R.remaining self.new.stream) result buf.new }
         ensures failed { HasCause self.old.faults self.new.faults (result ≡ Got.Failed) }
         ensures no_fault { StaysUnless self.old.faults self.new.faults (result ≡ Got.Failed) }
+        ensures end { HasCause self.old.ends self.new.ends (result ≡ Got.End) }
+        ensures no_end { StaysUnless self.old.ends self.new.ends (result ≡ Got.End) }
 
         // It is told what the reader answered to a try that no signal cut short.
         ensures told { IsReadBy R.answers TRIES self.old.stream self.new.stream result }
     {
         let got = read_some(&mut self.reader, buf);
-        if let Got::Failed = got {
-            raise(&mut self.faults);
+        match got {
+            Got::Bytes(_) => {}
+            Got::End => raise(&mut self.ends),
+            Got::Failed => raise(&mut self.faults),
         }
         got
     }
@@ -85,7 +97,7 @@ pub struct RealSink<W> {
 }
 
 impl<W> Model for RealSink<W> {
-    ghost Value = { Metered W };
+    ghost Value = { MeteredWriter W };
 
     ghost view = { λ s. record { stream = s.writer; faults = s.faults } };
 }

@@ -13,13 +13,18 @@ pub trait Source {
     /// How often the source has failed; it stays at 2^64 - 1.
     ghost faults: { Self → ℕ };
 
+    /// How often a read met the end of the source; it stays at 2^64 - 1.
+    ghost ends: { Self → ℕ };
+
     /// Reads at least one byte into the front of the buffer. After a fault it may be called again.
     fn read(&mut self, buf: &mut [u8]) -> Got
         requires { 0 < length buf.old }
         ensures fits { Fits result buf.new }
         ensures takes { Takes (left self.old) (left self.new) result buf.new }
         ensures failed { HasCause (faults self.old) (faults self.new) (result ≡ Got.Failed) }
-        ensures no_fault { StaysUnless (faults self.old) (faults self.new) (result ≡ Got.Failed) };
+        ensures no_fault { StaysUnless (faults self.old) (faults self.new) (result ≡ Got.Failed) }
+        ensures end { HasCause (ends self.old) (ends self.new) (result ≡ Got.End) }
+        ensures no_end { StaysUnless (ends self.old) (ends self.new) (result ≡ Got.End) };
 }
 
 /// A place that takes bytes behind those that it has. No call takes memory. `write` may wait for room.

@@ -5,5 +5,6 @@ pub mod Joining
 pub mod Judging
 pub mod Loop
 pub mod Numbers
+pub mod Standing
 pub mod Taking
 pub mod Vectors

@@ -2,6 +2,7 @@
 #![tactic(auto)]
 
 mod fault;
+mod lanes;
 mod limits;
 mod parse;
 mod read;
@@ -14,3 +15,4 @@ pub use p4_types::records::{HitMark, Record};
 pub use p4_types::tape::{TapeRecord, Who};
 pub use read::{Tape, take_bytes};
 pub use report::report_text;
+pub use tape_spec::TapeItem;

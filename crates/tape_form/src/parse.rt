@@ -1,15 +1,18 @@
 // A tape's records from its bytes.
-ghost use Rattle.std.specs.Prelude.{◌≡◌, ◌+◌, ◌<◌, ◌≤◌, ◌^◌, ℕ, min, set, slice_index, IfOk, IfErr};
-ghost use Rattle.run_spec.specs.Tape.{Lanes, no_lanes, lanes_after, IsRecord};
-ghost use Rattle.run_spec.specs.TapeReading.{method_of, number_at, bytes_at, call_at, packet_at, leave_at, some_called, called_at, last_call, meet_at, end_at, item_at, text_at, records_at, tape_at};
-ghost use Rattle.tape_form.specs.Calls.{lanes_of, AgreeOnCalls};
-ghost use Rattle.tape_form.specs.Parsed.{record_of, item_of, Finds, Grows, GivesAll, IsEmptied, EndsAlone, behind_kind};
+ghost use Rattle.std.specs.Prelude.{◌≡◌, ◌<◌, ◌≤◌, ◌^◌, ◌∷◌, ℕ, false, true, IfOk, IfErr};
+ghost use Rattle.run_spec.specs.TapeReading.{method_of, number_at, bytes_at, packet_at, meet_at, end_at, text_at};
+ghost use Rattle.tape_spec.specs.Items.{ItemLanes, no_item_lanes};
+ghost use Rattle.tape_spec.specs.Reading.{call_at, piece_at, leave_at, item_at, items_at, tape_at};
+ghost use Rattle.tape_form.specs.Calls.{lanes_of};
+ghost use Rattle.tape_form.specs.Parsed.{item_of, item_if_any, as_record, Finds, Grows, GivesAll, IsEmptied, EndsAlone, behind_kind};
 ghost use Rattle.tape_form.specs.declared.parse.Flaw.TheVariants as flaws;
 
+use crate::lanes::{SeenLanes, Taking};
 use list_types::ByteList;
 use p4_types::calls::Method;
 use p4_types::tape::TapeRecord;
 use std::alloc::{AllocError, Global};
+use tape_spec::TapeItem;
 
 /// The first bad byte, as the number of bytes left from it on; 0 where bytes are missing.
 #[derive(Clone, Copy)]
@@ -26,7 +29,7 @@ pub enum Flaw {
     TooMany(usize),
 }
 
-/// A record as it stands on a tape: its message or packet lies there still.
+/// An item as it stands on a tape: its message, packet or bytes lie there still.
 #[derive(Clone, Copy)]
 pub enum Seen<'a> {
     Call {
@@ -38,6 +41,10 @@ pub enum Seen<'a> {
         lane: u16,
         port: u16,
         packet: &'a [u8],
+    },
+    Bytes {
+        lane: u16,
+        bytes: &'a [u8],
     },
     Leave {
         lane: u16,
@@ -58,7 +65,7 @@ impl From<BadByte> for Flaw {
 }
 
 /// A big-endian number of so many bytes, from `low` to `high`, and the bytes after it.
-fn number_at(count: u32, low: u32, high: u32, bytes: &[u8]) -> Result<(u32, &[u8]), BadByte>
+pub fn number_at(count: u32, low: u32, high: u32, bytes: &[u8]) -> Result<(u32, &[u8]), BadByte>
     requires few { count ≤ 4 }
     requires order { low ≤ high }
     requires fits { high < 256 ^ count }
@@ -111,26 +118,37 @@ fn method_of(number: u8) -> Method
 }
 
 /// What stands behind the kind of a call.
-#[tactic(auto, unfolding(run_spec::specs::TapeReading::call_at))]
-fn call_at(bytes: &[u8]) -> Result<(Seen<'_>, &[u8]), BadByte>
-    ensures { Finds (λ x. (record_of x.0, x.1.now)) result (call_at bytes.now) }
+#[tactic(auto, unfolding(tape_spec::specs::Reading::call_at))]
+fn call_at<'a>(lanes: &SeenLanes, bytes: &'a [u8]) -> Result<(Seen<'a>, &'a [u8]), BadByte>
+    ensures { Finds (λ x. (item_of x.0, x.1.now)) result (call_at (lanes_of lanes.now) bytes.now) }
 {
-    let (lane, rest) = number_at(2, 0, 31, bytes)?;
+    let (lane, rest) = lanes.lane_at(Taking::Call, bytes)?;
     let (size, rest) = number_at(4, 1, 8_388_609, rest)?;
     let (method, rest) = number_at(1, 1, 6, rest)?;
     let (message, rest) = front_at(size as usize - 1, rest)?;
     let seen = Seen::Call {
-        lane: lane as u16,
+        lane,
         method: method_of(method as u8),
         message,
     };
     Ok((seen, rest))
 }
 
+/// What stands behind the kind of a client's bytes.
+#[tactic(auto, unfolding(tape_spec::specs::Reading::piece_at))]
+fn piece_at<'a>(lanes: &SeenLanes, bytes: &'a [u8]) -> Result<(Seen<'a>, &'a [u8]), BadByte>
+    ensures { Finds (λ x. (item_of x.0, x.1.now)) result (piece_at (lanes_of lanes.now) bytes.now) }
+{
+    let (lane, rest) = lanes.lane_at(Taking::Bytes, bytes)?;
+    let (size, rest) = number_at(4, 1, 65_536, rest)?;
+    let (bytes, rest) = front_at(size as usize, rest)?;
+    Ok((Seen::Bytes { lane, bytes }, rest))
+}
+
 /// What stands behind the kind of a packet.
 #[tactic(auto, unfolding(run_spec::specs::TapeReading::packet_at))]
 fn packet_at(bytes: &[u8]) -> Result<(Seen<'_>, &[u8]), BadByte>
-    ensures { Finds (λ x. (record_of x.0, x.1.now)) result (packet_at bytes.now) }
+    ensures { Finds (λ x. (item_of x.0, x.1.now)) result (as_record (packet_at bytes.now)) }
 {
     let (lane, rest) = number_at(2, 0, 15, bytes)?;
     let (size, rest) = number_at(4, 2, 9218, rest)?;
@@ -145,61 +163,25 @@ fn packet_at(bytes: &[u8]) -> Result<(Seen<'_>, &[u8]), BadByte>
 }
 
 /// What stands behind the kind of a stream's end.
-#[tactic(auto, unfolding(run_spec::specs::TapeReading::leave_at))]
-fn leave_at(bytes: &[u8]) -> Result<(Seen<'_>, &[u8]), BadByte>
-    ensures { Finds (λ x. (record_of x.0, x.1.now)) result (leave_at bytes.now) }
+#[tactic(auto, unfolding(tape_spec::specs::Reading::leave_at))]
+fn leave_at<'a>(lanes: &SeenLanes, bytes: &'a [u8]) -> Result<(Seen<'a>, &'a [u8]), BadByte>
+    ensures { Finds (λ x. (item_of x.0, x.1.now)) result (leave_at (lanes_of lanes.now) bytes.now) }
 {
-    let (lane, rest) = number_at(2, 0, 31, bytes)?;
+    let (lane, rest) = lanes.lane_at(Taking::Leave, bytes)?;
     let (_, rest) = number_at(4, 0, 0, rest)?;
-    Ok((Seen::Leave { lane: lane as u16 }, rest))
-}
-
-/// Whether one of the controllers' lanes has made a call.
-fn some_called(calls: &[u32; 32]) -> bool
-    ensures { result ≡ some_called 32 (lanes_of calls.now) }
-{
-    for count in calls {
-        if *count > 0 {
-            return true;
-        }
-    }
-    false
-}
-
-/// In one byte a controller's lane that has made a call, and the bytes after it.
-#[tactic(auto, unfolding(run_spec::specs::TapeReading::called_at))]
-fn called_at<'a>(calls: &[u32; 32], bytes: &'a [u8]) -> Result<(u16, &'a [u8]), BadByte>
-    ensures gives { Finds (λ x. (x.0, x.1.now)) result (called_at (lanes_of calls.now) bytes.now) }
-    ensures within { IfOk result (λ x. (x.0 < 32) × (1 ≤ slice_index calls.now x.0)) }
-{
-    let [first, rest @ ..] = bytes else {
-        return Err(BadByte { left: 0 });
-    };
-    let controller = u16::from(*first);
-    if controller < 32 && calls[controller as usize] > 0 {
-        return Ok((controller, rest));
-    }
-    Err(BadByte { left: bytes.len() })
-}
-
-/// The number of the last call that a controller's lane has made.
-fn last_call(calls: &[u32; 32], controller: u16) -> u32
-    requires { controller < 32 }
-    ensures { result ≡ last_call (lanes_of calls.now) controller }
-{
-    calls[controller as usize]
+    Ok((Seen::Leave { lane }, rest))
 }
 
 /// What stands behind the kind of a meet.
 #[tactic(auto, unfolding(run_spec::specs::TapeReading::meet_at))]
-fn meet_at<'a>(calls: &[u32; 32], bytes: &'a [u8]) -> Result<(Seen<'a>, &'a [u8]), BadByte>
-    ensures { Finds (λ x. (record_of x.0, x.1.now)) result (meet_at (lanes_of calls.now) bytes.now) }
+fn meet_at<'a>(lanes: &SeenLanes, bytes: &'a [u8]) -> Result<(Seen<'a>, &'a [u8]), BadByte>
+    ensures { Finds (λ x. (item_of x.0, x.1.now)) result (as_record (meet_at (lanes_of lanes.now).lanes bytes.now)) }
 {
     let (lane, rest) = number_at(2, 0, 15, bytes)?;
     let (_, rest) = number_at(4, 6, 6, rest)?;
     let (_, rest) = number_at(1, 0, 0, rest)?;
-    let (controller, rest) = called_at(calls, rest)?;
-    let (call, rest) = number_at(4, 1, last_call(calls, controller), rest)?;
+    let (controller, rest) = lanes.called_at(rest)?;
+    let (call, rest) = number_at(4, 1, lanes.last_call(controller), rest)?;
     let seen = Seen::Meet {
         lane: lane as u16,
         controller,
@@ -224,33 +206,59 @@ pub enum Kind {
     End,
     Call,
     Packet,
+    Bytes,
     Leave,
     Meet,
 }
 
-/// The kind of the record that begins, where the lanes have made so many calls, and the bytes after it.
-#[tactic(auto, unfolding(run_spec::specs::TapeReading::item_at))]
-fn kind_at<'a>(calls: &[u32; 32], bytes: &'a [u8]) -> Result<(Kind, &'a [u8]), BadByte>
-    ensures kind { IfOk result (λ x. item_at (lanes_of calls.now) bytes.now ≡ behind_kind x.0 (lanes_of calls.now) x.1.now) }
-    ensures bad { IfErr result (λ bad. item_at (lanes_of calls.now) bytes.now ≡ Err bad.left) }
+/// A kind that may stand where some lane takes it, and the bytes after it.
+fn kind_if(may_stand: bool, kind: Kind, left: usize, rest: &[u8]) -> Result<(Kind, &[u8]), BadByte>
+    ensures kind { IfOk result (λ x. (x.0 ≡ kind) × (x.1.now ≡ rest.now) × (may_stand ≡ true)) }
+    ensures bad { IfErr result (λ bad. (bad.left ≡ left) × (may_stand ≡ false)) }
 {
-    match bytes {
-        [0, rest @ ..] => Ok((Kind::End, rest)),
-        [1, rest @ ..] => Ok((Kind::Call, rest)),
-        [2, rest @ ..] => Ok((Kind::Packet, rest)),
-        [4, rest @ ..] => Ok((Kind::Leave, rest)),
-        [5, rest @ ..] if some_called(calls) => Ok((Kind::Meet, rest)),
-        _ => Err(BadByte { left: bytes.len() }),
+    if may_stand {
+        return Ok((kind, rest));
     }
+    Err(BadByte { left })
+}
+
+/// The kind of the item that begins with this byte, where the lanes are so.
+#[tactic(auto, unfolding(tape_spec::specs::Reading::item_at), using(crate::proofs::Callers::past_kind))]
+fn kind_of<'a>(lanes: &SeenLanes, first: u8, rest: &'a [u8]) -> Result<(Kind, &'a [u8]), BadByte>
+    ensures kind { IfOk result (λ x. item_at (lanes_of lanes.now) (first ∷ rest.now) ≡ behind_kind x.0 (lanes_of lanes.now) x.1.now) }
+    ensures bad { IfErr result (λ bad. item_at (lanes_of lanes.now) (first ∷ rest.now) ≡ Err bad.left) }
+{
+    let left = rest.len() + 1;
+    match first {
+        0 => Ok((Kind::End, rest)),
+        1 => kind_if(lanes.some_takes(Taking::Call), Kind::Call, left, rest),
+        2 => Ok((Kind::Packet, rest)),
+        3 => kind_if(lanes.some_takes(Taking::Bytes), Kind::Bytes, left, rest),
+        4 => kind_if(lanes.some_takes(Taking::Leave), Kind::Leave, left, rest),
+        5 => kind_if(lanes.some_called(), Kind::Meet, left, rest),
+        _ => Err(BadByte { left }),
+    }
+}
+
+/// The kind of the item that begins, where the lanes are so, and the bytes after it.
+#[tactic(auto, unfolding(tape_spec::specs::Reading::item_at))]
+fn kind_at<'a>(lanes: &SeenLanes, bytes: &'a [u8]) -> Result<(Kind, &'a [u8]), BadByte>
+    ensures kind { IfOk result (λ x. item_at (lanes_of lanes.now) bytes.now ≡ behind_kind x.0 (lanes_of lanes.now) x.1.now) }
+    ensures bad { IfErr result (λ bad. item_at (lanes_of lanes.now) bytes.now ≡ Err bad.left) }
+{
+    let [first, rest @ ..] = bytes else {
+        return Err(BadByte { left: 0 });
+    };
+    kind_of(lanes, *first, rest)
 }
 
 /// What stands behind a kind.
 fn behind_kind<'a>(
     kind: Kind,
-    calls: &[u32; 32],
+    lanes: &SeenLanes,
     rest: &'a [u8],
 ) -> Result<(Option<Seen<'a>>, &'a [u8]), BadByte>
-    ensures { Finds (λ x. (item_of x.0, x.1.now)) result (behind_kind kind (lanes_of calls.now) rest.now) }
+    ensures { Finds (λ x. (item_if_any x.0, x.1.now)) result (behind_kind kind (lanes_of lanes.now) rest.now) }
 {
     match kind {
         Kind::End => {
@@ -258,51 +266,34 @@ fn behind_kind<'a>(
             Ok((None, rest))
         }
         Kind::Call => {
-            let (call, rest) = call_at(rest)?;
+            let (call, rest) = call_at(lanes, rest)?;
             Ok((Some(call), rest))
         }
         Kind::Packet => {
             let (packet, rest) = packet_at(rest)?;
             Ok((Some(packet), rest))
         }
+        Kind::Bytes => {
+            let (piece, rest) = piece_at(lanes, rest)?;
+            Ok((Some(piece), rest))
+        }
         Kind::Leave => {
-            let (leave, rest) = leave_at(rest)?;
+            let (leave, rest) = leave_at(lanes, rest)?;
             Ok((Some(leave), rest))
         }
         Kind::Meet => {
-            let (meet, rest) = meet_at(calls, rest)?;
+            let (meet, rest) = meet_at(lanes, rest)?;
             Ok((Some(meet), rest))
         }
     }
 }
 
-/// A record, or none for the end record, and the bytes after it, where the lanes have made so many calls.
-fn item_at<'a>(calls: &[u32; 32], bytes: &'a [u8]) -> Result<(Option<Seen<'a>>, &'a [u8]), BadByte>
-    ensures { Finds (λ x. (item_of x.0, x.1.now)) result (item_at (lanes_of calls.now) bytes.now) }
+/// An item, or none for the end record, and the bytes after it, where the lanes are so.
+fn item_at<'a>(lanes: &SeenLanes, bytes: &'a [u8]) -> Result<(Option<Seen<'a>>, &'a [u8]), BadByte>
+    ensures { Finds (λ x. (item_if_any x.0, x.1.now)) result (item_at (lanes_of lanes.now) bytes.now) }
 {
-    let (kind, rest) = kind_at(calls, bytes)?;
-    behind_kind(kind, calls, rest)
-}
-
-/// Counts one more call of a lane.
-fn raise(calls: &mut [u32; 32], lane: u16)
-    requires { lane < 32 }
-    ensures { calls.new ≡ set calls.old lane (min (slice_index calls.old lane + 1) 4294967295) }
-{
-    calls[lane as usize] = calls[lane as usize].saturating_add(1);
-}
-
-/// Counts the call that a record is, if it is one.
-fn count_call(calls: &mut [u32; 32], seen: Seen<'_>)
-    requires { IsRecord (record_of seen) }
-    ensures { AgreeOnCalls (lanes_after (lanes_of calls.old) (record_of seen.entry)) (lanes_of calls.new) }
-{
-    match seen {
-        Seen::Call { lane, .. } => raise(calls, lane),
-        Seen::Leave { lane } => raise(calls, lane),
-        Seen::Packet { .. } => {}
-        Seen::Meet { .. } => {}
-    }
+    let (kind, rest) = kind_at(lanes, bytes)?;
+    behind_kind(kind, lanes, rest)
 }
 
 /// The bytes behind this text.
@@ -332,9 +323,9 @@ fn kept(alloc: Global, bytes: &[u8]) -> Result<ByteList, AllocError>
     Ok(ByteList::from_vec(Vec::from_slice(alloc, bytes)?))
 }
 
-/// A record with its message or packet in memory of its own.
-fn owned(alloc: Global, seen: Seen<'_>) -> Result<TapeRecord, AllocError>
-    ensures { IfOk result (λ x. x ≡ record_of seen.entry) }
+/// An item with its message, packet or bytes in memory of its own.
+fn owned(alloc: Global, seen: Seen<'_>) -> Result<TapeItem, AllocError>
+    ensures { IfOk result (λ x. x ≡ item_of seen.entry) }
 {
     match seen {
         Seen::Call {
@@ -343,70 +334,74 @@ fn owned(alloc: Global, seen: Seen<'_>) -> Result<TapeRecord, AllocError>
             message,
         } => {
             let message = kept(alloc, message)?;
-            Ok(TapeRecord::Call {
+            Ok(TapeItem::Record(TapeRecord::Call {
                 lane,
                 method,
                 message,
-            })
+            }))
         }
         Seen::Packet { lane, port, packet } => {
             let packet = kept(alloc, packet)?;
-            Ok(TapeRecord::Packet { lane, port, packet })
+            Ok(TapeItem::Record(TapeRecord::Packet { lane, port, packet }))
         }
-        Seen::Leave { lane } => Ok(TapeRecord::Leave { lane }),
+        Seen::Bytes { lane, bytes } => {
+            let bytes = kept(alloc, bytes)?;
+            Ok(TapeItem::Bytes { lane, bytes })
+        }
+        Seen::Leave { lane } => Ok(TapeItem::Record(TapeRecord::Leave { lane })),
         Seen::Meet {
             lane,
             controller,
             call,
-        } => Ok(TapeRecord::Meet {
+        } => Ok(TapeItem::Record(TapeRecord::Meet {
             lane,
             controller,
             call,
-        }),
+        })),
     }
 }
 
-/// One more record behind those that are kept, unless there was no memory for one of them.
+/// One more item behind those that are kept, unless there was no memory for one of them.
 fn with_next(
     alloc: Global,
-    records: Result<Vec<TapeRecord>, AllocError>,
+    items: Result<Vec<TapeItem>, AllocError>,
     seen: Seen<'_>,
-) -> Result<Vec<TapeRecord>, AllocError>
-    ensures { Grows (λ x. x.items) records result (record_of seen.entry) }
+) -> Result<Vec<TapeItem>, AllocError>
+    ensures { Grows (λ x. x.items) items result (item_of seen.entry) }
 {
-    let mut records = records?;
-    records.push(owned(alloc, seen)?)?;
-    Ok(records)
+    let mut items = items?;
+    items.push(owned(alloc, seen)?)?;
+    Ok(items)
 }
 
-/// The records, up to the end record, behind which nothing stands. Where there is no memory to keep them, the rest
+/// The items, up to the end record, behind which nothing stands. Where there is no memory to keep them, the rest
 /// is read all the same, so that no flaw is hidden.
-fn records_at(
+fn items_at(
     alloc: Global,
     limit: u32,
     bytes: &[u8],
-) -> Result<Result<Vec<TapeRecord>, AllocError>, Flaw>
-    ensures { GivesAll (λ x. x.items) result (records_at limit no_lanes bytes.now) }
+) -> Result<Result<Vec<TapeItem>, AllocError>, Flaw>
+    ensures { GivesAll (λ x. x.items) result (items_at limit no_item_lanes bytes.now) }
 {
-    let mut records = Ok(Vec::new(alloc));
-    let mut calls = [0; 32];
+    let mut items = Ok(Vec::new(alloc));
+    let mut lanes = SeenLanes::new();
     let mut rest = bytes;
     for _ in 0..limit {
-        let (item, after) = item_at(&calls, rest)?;
+        let (item, after) = item_at(&lanes, rest)?;
         match item {
             Some(seen) => {
-                count_call(&mut calls, seen);
-                records = with_next(alloc, records, seen);
+                lanes.note(seen);
+                items = with_next(alloc, items, seen);
             }
             None => {
                 nothing_in(after)?;
-                return Ok(records);
+                return Ok(items);
             }
         }
         rest = after;
     }
     end_alone(rest)?;
-    Ok(records)
+    Ok(items)
 }
 
 /// No bytes are left.
@@ -420,9 +415,9 @@ fn nothing_in(rest: &[u8]) -> Result<(), BadByte>
 }
 
 /// The end record alone is left: behind the last record that may stand on a tape.
-#[tactic(auto, unfolding(run_spec::specs::TapeReading::records_at, run_spec::specs::TapeReading::item_at))]
+#[tactic(auto, unfolding(tape_spec::specs::Reading::items_at, tape_spec::specs::Reading::item_at))]
 fn end_alone(rest: &[u8]) -> Result<(), Flaw>
-    ensures { (lanes : Lanes) → EndsAlone result (records_at 0 lanes rest.now) }
+    ensures { (lanes : ItemLanes) → EndsAlone result (items_at 0 lanes rest.now) }
 {
     match rest {
         [0, after @ ..] => Ok(nothing_in(end_at(after)?)?),
@@ -431,15 +426,15 @@ fn end_alone(rest: &[u8]) -> Result<(), Flaw>
     }
 }
 
-/// The records of the tape that the bytes are, or that there was no memory to keep them.
-#[tactic(auto, unfolding(run_spec::specs::TapeReading::tape_at))]
+/// The items of the tape that the bytes are, or that there was no memory to keep them.
+#[tactic(auto, unfolding(tape_spec::specs::Reading::tape_at))]
 pub(crate) fn tape_at(
     alloc: Global,
     limit: u32,
     bytes: &[u8],
-) -> Result<Result<Vec<TapeRecord>, AllocError>, Flaw>
+) -> Result<Result<Vec<TapeItem>, AllocError>, Flaw>
     ensures { GivesAll (λ x. x.items) result (tape_at limit bytes.now) }
 {
     let rest = text_at(b"P4TAPE1\n", bytes)?;
-    records_at(alloc, limit, rest)
+    items_at(alloc, limit, rest)
 }

@@ -1,38 +1,40 @@
 // A tape from a source.
-ghost use Rattle.std.specs.Prelude.{◌≡◌, ◌≤◌, ℕ, List, Ok, Err, IfOk, IfErr, OnOk, IsErrOf, All, length};
-ghost use Rattle.std.specs.List.{AllByRecursion};
-ghost use Rattle.run_spec.specs.Tape.{IsRecord, tape_bytes};
+ghost use Rattle.std.specs.Prelude.{◌≡◌, ◌≤◌, ℕ, List, Ok, Err, IfOk, IfErr, OnOk, OnErr, IsErrOf, All, length, [], ◌∷◌, ◌++◌};
+ghost use Rattle.std.specs.List.{filter_map, list_any, AllByRecursion};
+ghost use Rattle.tape_spec.specs.Items.{IsItem, bytes_of, is_piece, record_in};
+ghost use Rattle.run_spec.specs.Tape.{IsRecord};
 ghost use Rattle.sw_edge.specs.Counts.{HasCause};
-ghost use Rattle.tape_form.specs.TapeRead.{InLimits, outcome, kept_answer, when_short, when_bad, answer_of, IsDue, EndsWithin, EndsSo, EndsSoundly, IsTakenFrom, IsReadFrom, IsWholeTape, IsUnfinished, IsBadAt, IsTooLong, IsAnswerToTape};
+ghost use Rattle.tape_form.specs.TapeRead.{InLimits, outcome, kept_answer, when_short, when_bad, answer_of, IsDue, EndsWithin, EndsSo, EndsSoundly, EndsMet, IsTakenFrom, IsReadFrom, IsWholeTape, IsUnfinished, HidesNothing, IsBadAt, IsTooLong, IsAnswerToTape};
 
 use crate::fault::{Ended, TapeFault};
 use crate::limits::{MAX_RECORDS, MAX_TAPE};
 use crate::parse::{Flaw, tape_at};
-use list_types::List;
+use list_types::{List, NoMemory};
 use p4_types::tape::TapeRecord;
 use std::alloc::{AllocError, Global};
 use std::marker::Model;
 use sw_edge::{Got, Source};
+use tape_spec::TapeItem;
 
 /// How many bytes are read at once.
 const PIECE: usize = 65_536;
 
-/// A tape: its records in their order, in the grammar and within the limits.
+/// A tape: its items in their order, in the grammar and within the limits.
 #[derive(Drop)]
 pub struct Tape {
-    records: Vec<TapeRecord>,
+    items: Vec<TapeItem>,
 }
 
 impl Model for Tape {
     ghost use Rattle.std.specs.Prelude.{List};
-    ghost use Rattle.p4_types.specs.declared.tape.TapeRecord.{TapeRecord};
+    ghost use Rattle.tape_spec.specs.declared.item.TapeItem.{TapeItem};
     ghost use Rattle.tape_form.specs.TapeRead.{InLimits};
 
-    ghost Value = { List TapeRecord };
+    ghost Value = { List TapeItem };
 
-    ghost view = { λ tape. tape.records.items };
+    ghost view = { λ tape. tape.items.items };
 
-    ghost invariant = { λ tape. InLimits tape.records.items };
+    ghost invariant = { λ tape. InLimits tape.items.items };
 }
 
 impl Tape {
@@ -45,31 +47,56 @@ impl Tape {
         ensures too_long { IsErrOf result TapeFault.TooLong → IsTooLong (S.left source.old) (S.left source.new) }
         ensures sound { OnOk result (S.faults source.new ≡ S.faults source.old) }
         ensures no_memory { IsErrOf result TapeFault.NoMemory → IsUnfinished (S.left source.old) (S.left source.new) (S.faults source.old) (S.faults source.new) }
+        ensures hides_nothing { IsErrOf result TapeFault.NoMemory → HidesNothing (S.left source.old) (S.left source.new) (S.ends source.old) (S.ends source.new) }
         ensures fault { HasCause (S.faults source.old) (S.faults source.new) (IsErrOf result TapeFault.Fault) }
-        ensures complete { (records : List TapeRecord) → InLimits records → S.left source.old ≡ Some (tape_bytes records) → IsAnswerToTape records result }
+        ensures complete { (records : List TapeItem) → InLimits records → S.left source.old ≡ Some (bytes_of records) → IsAnswerToTape records result }
     {
         read_from(alloc, source)
     }
 
-    /// The records in their order, the end record left out.
-    #[tactic(auto, using(run_spec::proofs::Standing::all_of))]
-    pub fn records(&self) -> &[TapeRecord]
+    /// The items in their order, the end record left out.
+    #[tactic(auto, using(crate::proofs::Standing::all_of))]
+    pub fn items(&self) -> &[TapeItem]
         ensures value { result.now ≡ self.now }
         ensures limits { InLimits self.now }
-        ensures each { All IsRecord self.now }
+        ensures each { All IsItem self.now }
     {
-        self.records.as_slice()
+        self.items.as_slice()
     }
 
-    /// The records, which are not copied.
-    #[tactic(auto, using(run_spec::proofs::Standing::all_of, std::proofs::lemmas::List::Elements::recursion_from_All))]
-    pub fn into_records(self) -> List<TapeRecord>
-        ensures value { result ≡ self }
-        ensures limits { InLimits self }
-        ensures each { AllByRecursion IsRecord self }
+    /// Whether a lane of it brings bytes.
+    pub fn brings_bytes(&self) -> bool
+        ensures { result ≡ list_any is_piece self.now }
     {
-        List::from_vec(self.records)
+        self.items
+            .as_slice()
+            .iter()
+            .any(|item| matches!(item, TapeItem::Bytes { .. }))
     }
+
+    /// The records of a tape of which no lane brings bytes, and of another those of its items that are records. They are not copied.
+    #[tactic(auto, using(crate::proofs::Standing::kept_more, crate::proofs::Standing::records_each, crate::proofs::Standing::records_few))]
+    pub fn into_records(self, alloc: Global) -> Result<List<TapeRecord>, NoMemory>
+        ensures kept { IfOk result (λ records. records ≡ filter_map record_in self) }
+        ensures each { IfOk result (AllByRecursion IsRecord) }
+        ensures number { IfOk result (λ records. length records ≤ MAX_RECORDS) }
+    {
+        let mut records = Vec::new(alloc);
+        for item in self.items {
+            keep_record(&mut records, item)?;
+        }
+        Ok(List::from_vec(records))
+    }
+}
+
+/// Keeps an item, if it is a record.
+fn keep_record(records: &mut Vec<TapeRecord>, item: TapeItem) -> Result<(), AllocError>
+    ensures { OnOk result (records.new.items ≡ records.old.items ++ filter_map record_in (item ∷ [])) }
+{
+    if let TapeItem::Record(record) = item {
+        records.push(record)?;
+    }
+    Ok(())
 }
 
 /// Room for what is read at once.
@@ -86,6 +113,8 @@ pub fn take_bytes<S: Source>(alloc: Global, source: &mut S) -> Result<(Vec<u8>, 
     ensures soundly { IfOk result (λ x. EndsSoundly x.1 (S.left source.new) (S.faults source.old) (S.faults source.new)) }
     ensures within { IfOk result (λ x. EndsWithin x.1 x.0.items) }
     ensures no_memory { IfErr result (λ _. IsUnfinished (S.left source.old) (S.left source.new) (S.faults source.old) (S.faults source.new)) }
+    ensures met { IfOk result (λ x. EndsMet x.1 (S.ends source.old) (S.ends source.new)) }
+    ensures unmet { OnErr result (S.ends source.new ≡ S.ends source.old) }
     ensures later { S.faults source.old ≤ S.faults source.new }
 {
     let mut bytes = Vec::new(alloc);
@@ -105,12 +134,12 @@ pub fn take_bytes<S: Source>(alloc: Global, source: &mut S) -> Result<(Vec<u8>, 
 }
 
 /// The answer where the bytes are a tape, whose records are kept, unless there was no memory for them.
-fn whole(kept: Result<Vec<TapeRecord>, AllocError>, ended: Ended) -> Result<Tape, TapeFault>
+fn whole(kept: Result<Vec<TapeItem>, AllocError>, ended: Ended) -> Result<Tape, TapeFault>
     requires { ended ≡ Ended.AtEnd → IfOk kept (λ records. InLimits records.items) }
     ensures { kept_answer (λ records. records.items) ended kept ≡ result }
 {
     match ended {
-        Ended::AtEnd => Ok(Tape { records: kept? }),
+        Ended::AtEnd => Ok(Tape { items: kept? }),
         Ended::AtFault => Err(TapeFault::Fault),
         Ended::AtLimit => Err(TapeFault::TooLong),
     }
@@ -141,7 +170,7 @@ fn bad(place: usize, ended: Ended) -> Result<Tape, TapeFault>
 fn answer_of(
     taken: usize,
     ended: Ended,
-    read: Result<Result<Vec<TapeRecord>, AllocError>, Flaw>,
+    read: Result<Result<Vec<TapeItem>, AllocError>, Flaw>,
 ) -> Result<Tape, TapeFault>
     requires whole { ended ≡ Ended.AtEnd → IfOk read (λ kept. IfOk kept (λ records. InLimits records.items)) }
     requires within { (left : ℕ) → IsErrOf read (Flaw.Bad left) → left ≤ taken }
@@ -165,6 +194,7 @@ fn judge(alloc: Global, bytes: &[u8], ended: Ended) -> Result<Tape, TapeFault>
 
 /// The tape that the source gives, or the answer to what it gives.
 fn read_from<S: Source>(alloc: Global, source: &mut S) -> Result<Tape, TapeFault>
+    ensures hides_nothing { IsErrOf result TapeFault.NoMemory → HidesNothing (S.left source.old) (S.left source.new) (S.ends source.old) (S.ends source.new) }
     ensures exact { IsReadFrom (S.left source.old) (S.left source.new) (S.faults source.old) (S.faults source.new) result }
     ensures later { S.faults source.old ≤ S.faults source.new }
 {

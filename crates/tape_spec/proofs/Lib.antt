@@ -1,3 +1,4 @@
+pub mod Flaws
 pub mod ItemReaders
 pub mod LaneReaders
 pub mod TapeItems

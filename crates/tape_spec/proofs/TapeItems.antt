@@ -4,13 +4,12 @@ use Rattle.std.proofs.lemmas.Bool.{and_parts, and_from, leb-true, le-leb}
 use Rattle.p4_types.specs.declared.tape.TapeRecord.TheVariants.{Call, Packet, Leave, Meet}
 use Rattle.wire_fields.specs.Reading.{◌>>=◌}
 use Rattle.run_spec.specs.Tape.{end_bytes}
-use Rattle.run_spec.specs.TapeReading.{Flaw, Bad, TooMany, or_bad, begins_counted}
+use Rattle.tape_spec.specs.Reading.{Flaw, Bad, TooMany, or_bad, begins_counted, item_at, item_within, nothing_after, with_first, items_at}
 use Rattle.run_spec.proofs.Readers.{bind_ok, bind_err, chosen}
-use Rattle.run_spec.proofs.TapeRecords.{or_bad_ok, or_bad_err, or_bad_many, fine}
+use Rattle.tape_spec.proofs.Flaws.{or_bad_ok, or_bad_err, or_bad_many, fine}
 use Rattle.tape_spec.specs.declared.item.TapeItem.{TapeItem}
 use Rattle.tape_spec.specs.declared.item.TapeItem.TheVariants.{Record, Bytes}
 use Rattle.tape_spec.specs.Items.{ItemLanes, lanes_behind, item_bytes, MayFollow, AreItems}
-use Rattle.tape_spec.specs.Reading.{item_at, item_within, nothing_after, with_first, items_at}
 use Rattle.tape_spec.proofs.ItemReaders.{any_bytes, MayBe, item_found, item_again, item_flawed}
 
 abbrev Item : Type 0

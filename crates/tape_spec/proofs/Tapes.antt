@@ -4,12 +4,12 @@ use Rattle.std.proofs.lemmas.Bool.{eq-eqb, eqb-true}
 use Rattle.std.proofs.lemmas.List.{take_at, length-append}
 use Rattle.wire_fields.specs.Reading.{◌>>=◌}
 use Rattle.run_spec.specs.Tape.{magic, end_bytes}
-use Rattle.run_spec.specs.TapeReading.{Flaw, Bad, TooMany, text_at, or_bad}
+use Rattle.run_spec.specs.TapeReading.{text_at}
+use Rattle.tape_spec.specs.Reading.{Flaw, Bad, TooMany, or_bad, with_first, items_at, tape_at}
 use Rattle.run_spec.proofs.Readers.{bind_ok, bind_err, chosen, failed, clash, err_is}
-use Rattle.run_spec.proofs.TapeRecords.{or_bad_ok, or_bad_err, or_bad_many, fine}
+use Rattle.tape_spec.proofs.Flaws.{or_bad_ok, or_bad_err, or_bad_many, fine}
 use Rattle.tape_spec.specs.declared.item.TapeItem.{TapeItem}
 use Rattle.tape_spec.specs.Items.{ItemLanes, lanes_behind, item_bytes, no_item_lanes, AreItems, IsTapeOf, Begins, NoneBeginsAnother}
-use Rattle.tape_spec.specs.Reading.{with_first, items_at, tape_at}
 use Rattle.tape_spec.specs.ReadingLaws.{IsNone, ReadAreItems, ItemsAreRead, BadPlaceIsExact, BeyondIsExact, BeyondIsFound}
 use Rattle.tape_spec.proofs.TapeItems.{items_end, items_more, items_again, items_found, ItemsFlawed, items_flawed, items_past, past_again}
 

@@ -1,13 +1,20 @@
 -- A tape with lanes of bytes, read from left to right. An error says how many bytes are left from the first bad byte on; 0 says that bytes are missing.
-use Rattle.std.specs.Prelude.{ℕ, zero, suc, ◌-◌, nat_lt, ◌==◌, ◌||◌, ◌&&◌, Bool, false, if◌then◌else◌, List, [], ◌∷◌, length, Option, Some, None, Result, Ok, Err}
+use Rattle.std.specs.Prelude.{ℕ, zero, suc, ◌-◌, nat_lt, nat_le, ◌==◌, ◌||◌, ◌&&◌, Bool, false, if◌then◌else◌, List, [], ◌∷◌, length, Option, Some, None, Result, Ok, Err}
 use Rattle.p4_types.specs.declared.tape.TapeRecord.{TapeRecord}
 use Rattle.p4_types.specs.declared.tape.TapeRecord.TheVariants.{Call, Leave}
 use Rattle.wire_fields.specs.Reading.{◌>>=◌}
 use Rattle.run_spec.specs.Tape.{magic}
-use Rattle.run_spec.specs.TapeReading.{Flaw, Bad, TooMany, number_at, bytes_at, text_at, method_of, packet_at, some_called, meet_at, end_at, or_bad, begins_counted}
+use Rattle.run_spec.specs.TapeReading.{number_at, bytes_at, text_at, method_of, packet_at, some_called, meet_at, end_at}
 use Rattle.tape_spec.specs.declared.item.TapeItem.{TapeItem}
 use Rattle.tape_spec.specs.declared.item.TapeItem.TheVariants.{Record, Bytes}
 use Rattle.tape_spec.specs.Items.{ItemLanes, no_item_lanes, lanes_behind, takes_call, takes_bytes, takes_leave}
+
+-- what keeps bytes from being a tape within the limit of items, and how many bytes are left from there on
+pub data Flaw : Type 0 where
+  -- the first byte with which no tape goes on
+  Bad : (left : ℕ) → Flaw
+  -- the first byte of an item past the limit
+  TooMany : (left : ℕ) → Flaw
 
 -- whether a number is that of a controller's lane of these
 abbrev pub is_lane : (ℕ → Bool) → ℕ → Bool
@@ -72,6 +79,20 @@ item_at lanes (kind ∷ bytes) =
     else if kind == 4 && some_lane 32 (takes_leave lanes) then as_some (leave_at lanes bytes)
     else if kind == 5 && some_called 32 lanes.lanes then as_item (meet_at lanes.lanes bytes)
     else Err (length (kind ∷ bytes))
+
+-- an error of a reader as a flaw
+abbrev pub or_bad : {A : Type 0} → Result A ℕ → Result A Flaw
+or_bad (Ok x) = Ok x
+or_bad (Err left) = Err (Bad left)
+
+-- whether a byte is the kind of an item that the limit counts
+abbrev pub is_counted : ℕ → Bool
+is_counted kind = nat_le 1 kind && nat_le kind 5
+
+-- an item of a kind that is counted begins
+abbrev pub begins_counted : List ℕ → Bool
+begins_counted [] = nat_lt 0 0
+begins_counted (kind ∷ bytes) = is_counted kind
 
 -- an item beyond the limit is a flaw at its first byte, also one of a kind that may not stand there
 abbrev pub item_within : ℕ → ItemLanes → List ℕ → Result (Option TapeItem × List ℕ) Flaw

@@ -2,10 +2,9 @@
 use Rattle.std.specs.Prelude.{◌≡◌, ℕ, ◌-◌, ◌≤◌, List, ◌∷◌, ◌++◌, length, Ok, Err}
 use Rattle.std.specs.List.{flat_map}
 use Rattle.run_spec.specs.Tape.{magic}
-use Rattle.run_spec.specs.TapeReading.{Bad, TooMany}
+use Rattle.tape_spec.specs.Reading.{Bad, TooMany, tape_at}
 use Rattle.tape_spec.specs.declared.item.TapeItem.{TapeItem}
 use Rattle.tape_spec.specs.Items.{item_bytes, no_item_lanes, AreItems, IsTapeOf, IsLongestFront}
-use Rattle.tape_spec.specs.Reading.{tape_at}
 
 -- the bytes are the tape of no items
 abbrev pub IsNone : List ℕ → Type 0

@@ -16,6 +16,7 @@ loop-buffer-preserved g c =
       size = more.size;
       room = omega (arith, size, length-take c.min-room.result c.loop-buffer.buffer, length-drop c.min-room.result c.loop-buffer.buffer, length-append c.read.new.buf (drop c.min-room.result c.loop-buffer.buffer));
       sound = c.in-Bytes.ensures.no_fault (λ e. cc) ∙ c.loop-buffer.invariant.sound;
+      unmet = c.in-Bytes.ensures.no_end (λ e. cc) ∙ c.loop-buffer.invariant.unmet;
     }
 
 pub returns-in_err-reserve-clause-no_memory : goal.returns-in_err-reserve-clause-no_memory

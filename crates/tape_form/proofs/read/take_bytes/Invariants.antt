@@ -10,6 +10,7 @@ invariant-loop-buffer g l = record {
   size : length l.bytes.items ≤ suc MAX_TAPE;
   room : length l.buffer ≡ PIECE;
   sound : g.S.Source.faults l.source ≡ g.S.Source.faults l.fn.source;
+  unmet : g.S.Source.ends l.source ≡ g.S.Source.ends l.fn.source;
 }
 
 abbrev pub decreases-loop-buffer : goal.decreases-loop-buffer

@@ -1,0 +1,9 @@
+pub mod Asking
+pub mod Greeting
+pub mod Items
+pub mod Notices
+pub mod Reporting
+pub mod SessionBounds
+pub mod SessionLemmas
+pub mod Speaking
+pub mod TallyLemmas

@@ -1,5 +1,0 @@
-use Rattle.run_spec.proofs.Tapes.{no_tape_begins_another}
-use Rattle.run_spec.proofs.tape_laws.no_tape_begins_another.Goals as goal
-
-pub returns : goal.returns
-returns c = no_tape_begins_another

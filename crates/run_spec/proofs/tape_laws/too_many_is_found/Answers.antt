@@ -1,5 +1,0 @@
-use Rattle.run_spec.proofs.Tapes.{too_many_is_found}
-use Rattle.run_spec.proofs.tape_laws.too_many_is_found.Goals as goal
-
-pub returns : goal.returns
-returns c = too_many_is_found
