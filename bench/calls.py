@@ -7,10 +7,8 @@ four entries in each call. A third has one Write of 4,096 updates in nearly 8 Mi
 run's, which stays near 1 while a call's cost does not grow with the calls before it. Times are of this machine
 and of this moment; a figure to quote is a ratio of two runs on one machine.
 """
-import os
-import sys
 
-from replay import TOP, record, run
+from replay import program_given, record, run
 
 
 def field(number, content):
@@ -63,10 +61,7 @@ def large_write():
 
 
 def main():
-    words = sys.argv[1:]
-    program = os.path.join(TOP, "crates/p4switch/out/p4switch")
-    if words and not words[0].isdigit():
-        program = words.pop(0)
+    program, words = program_given("p4switch")
     for name, make in (("writes", writes), ("reads", reads)):
         first = None
         for count in [int(w) for w in words] or [1000, 10000]:

@@ -17,7 +17,7 @@ import sys
 from calls import tape
 from packets import HEAD
 from pipelines import ARBITRATE, VERIFY_AND_COMMIT, put, routes
-from replay import TOP, record
+from replay import program_given, record
 from stages import router
 
 ROUNDS = 3
@@ -44,10 +44,7 @@ def least(program, data):
 
 
 def main():
-    words = sys.argv[1:]
-    program = os.path.join(TOP, "crates/replay_speed/out/replay_speed")
-    if words and not words[0].isdigit():
-        program = words.pop(0)
+    program, words = program_given("replay_speed")
     config = open(words.pop(0), "rb").read() if words and not words[0].isdigit() else router()
     records = int(words[0]) if words else 1000000
     print("%d hardware threads" % os.cpu_count())

@@ -8,12 +8,11 @@ time a call, the ratio to a record's, and the ratio of N calls to a tenth of the
 does not grow with the calls before it. Of each time the least of three runs counts; times are of this machine, ratios of
 one run.
 """
-import os
-import sys
 
 from calls import long_field, tape
 from clients import frames
-from replay import TOP, record, run
+from pipelines import least
+from replay import program_given, record
 
 METHOD = "/p4.v1.P4Runtime/Write"
 
@@ -47,28 +46,21 @@ def of_records(count):
     return tape(record(1, 0, b"\x01" + message(i)) for i in range(count))
 
 
-def least(program, data):
-    runs = [run(program, data) for _ in range(3)]
-    seconds, status, peak = min(runs)
-    if status:
-        sys.exit("status %d" % status)
-    return seconds, peak
+def timed(program, data):
+    return least(program, data, 3, ("replay", "--lockstep", "--bridge"))
 
 
 def main():
-    words = sys.argv[1:]
-    program = os.path.join(TOP, "crates/p4switch/out/p4switch")
-    if words and not words[0].isdigit():
-        program = words.pop(0)
+    program, words = program_given("p4switch")
     count = int(words[0]) if words else 10000
     few = max(count // 10, 1)
-    empty, _ = least(program, tape([]))
+    empty, _ = timed(program, tape([]))
     first = None
     makes = [("records of calls", of_records)]
     makes += [("bytes in pieces of %d" % size, lambda n, size=size: of_bytes(n, size)) for size in (65536, 1000, 100)]
     for name, make in makes:
-        seconds, peak = least(program, make(count))
-        short, _ = least(program, make(few))
+        seconds, peak = timed(program, make(count))
+        short, _ = timed(program, make(few))
         each = (seconds - empty) / count
         first = first or each
         growth = each / max((short - empty) / few, 1e-9)

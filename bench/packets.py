@@ -7,12 +7,10 @@ packet, less that of the same tape with a tenth of the packets, the router's bes
 beside the tape's bytes. A tape has at most 1,000,000 records. The time a packet has the reading of the tape and its line of the report in it, which are about the same
 in both. Times and memory are of this machine; the ratio is what to quote.
 """
-import os
-import sys
 
 from calls import tape, write
 from pipelines import ARBITRATE, VERIFY_AND_COMMIT, put, routes
-from replay import TOP, record, run
+from replay import program_given, record, run
 from stages import router
 
 HEAD = bytes([2, 0, 0, 0, 0, 10, 2, 0, 0, 0, 0, 1, 8, 0, 0x45, 0, 0, 20, 0, 0, 0, 0, 64, 1, 0, 0, 10, 0, 0, 1])
@@ -29,10 +27,7 @@ def bridged(count):
 
 
 def main():
-    words = sys.argv[1:]
-    program = os.path.join(TOP, "crates/p4switch/out/p4switch")
-    if words and not words[0].isdigit():
-        program = words.pop(0)
+    program, words = program_given("p4switch")
     count = int(words[0]) if words else 999000
     config = router()
     kinds = [("router", [ARBITRATE, put(VERIFY_AND_COMMIT, config), routes(config, 4)], routed, ("replay", "--lockstep")),

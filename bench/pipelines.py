@@ -86,11 +86,11 @@ def routes(config, count):
     return record(1, 0, b"\x01" + number(1, 1) + long_field(3, number(2, 1)) + b"".join(updates))
 
 
-def least(program, data, times=5):
-    """The least time and the greatest peak of several runs."""
+def least(program, data, times=5, words=("replay", "--lockstep")):
+    """The least time and the greatest peak of several runs with these words."""
     seconds, peaks = 1e9, 0
     for _ in range(times):
-        took, status, peak = run(program, data, ("replay", "--lockstep"))
+        took, status, peak = run(program, data, words)
         if status:
             sys.exit("%s: status %d" % (program, status))
         seconds, peaks = min(seconds, took), max(peaks, peak)

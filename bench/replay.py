@@ -16,6 +16,14 @@ import time
 TOP = os.path.join(os.path.dirname(os.path.abspath(__file__)), "..")
 
 
+def program_given(crate):
+    """The program that the script's first word names, or else the built one of a crate; and the words behind it."""
+    words = sys.argv[1:]
+    if words and not words[0].isdigit():
+        return words[0], words[1:]
+    return os.path.join(TOP, "crates", crate, "out", crate), words
+
+
 def record(kind, lane, payload):
     return bytes([kind]) + lane.to_bytes(2, "big") + len(payload).to_bytes(4, "big") + payload
 
@@ -62,10 +70,7 @@ def run(program, data, words=("replay", "--lockstep", "--bridge")):
 
 
 def main():
-    words = sys.argv[1:]
-    program = os.path.join(TOP, "crates/p4switch/out/p4switch")
-    if words and not words[0].isdigit():
-        program = words.pop(0)
+    program, words = program_given("p4switch")
     first = None
     for n in [int(w) for w in words] or [10000, 100000, 999000]:
         packets, calls, data = tape(n)

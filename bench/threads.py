@@ -18,7 +18,7 @@ import sys
 from calls import tape
 from packets import HEAD
 from pipelines import ARBITRATE, VERIFY_AND_COMMIT, first_ids, long_field, number, put, route, routes
-from replay import TOP, record
+from replay import program_given, record
 from stages import router
 
 ROUNDS = 3
@@ -97,10 +97,7 @@ def entries(program, config, times):
 
 
 def main():
-    words = sys.argv[1:]
-    program = os.path.join(TOP, "crates/desk_speed/out/desk_speed")
-    if words and not words[0].isdigit():
-        program = words.pop(0)
+    program, words = program_given("desk_speed")
     config = open(words.pop(0), "rb").read() if words and not words[0].isdigit() else router()
     times = int(words[0]) if words else 200000
     print("%d hardware threads, %d routes" % (os.cpu_count(), ROUTES))
