@@ -2,7 +2,8 @@
 use Rattle.std.proofs.Common.{◌≡◌, ℕ, nat_lt, Bool, true, false, cond, All, IfSome, List, length, Option, Some, None, codes, subst}
 use Rattle.serde_json.specs.Data.{Data}
 use Rattle.json_shapes.specs.declared.arrays.Only.{Only}
-use Rattle.json_shapes.specs.Shapes.{◌>>=◌, required, list_of, list_or_empty, list_unless_absent}
+use Rattle.list_types.specs.Options.{◌>>=◌}
+use Rattle.json_shapes.specs.Shapes.{required, list_of, list_or_empty, list_unless_absent}
 use Rattle.json_shapes.specs.Arrays.{only_of}
 use Rattle.json_shapes.proofs.Keeping.{Keeps, then_kept, then_kept_by, required_kept, required_list_kept, only_kept, list_or_empty_kept}
 use Rattle.bm_records.specs.declared.raw.ParseState.{ParseState}

@@ -5,15 +5,16 @@ use Rattle.std.proofs.lemmas.Bool.{false≢true}
 use Rattle.std.proofs.lemmas.Str.{IsUtf8-from_is_utf8, is_utf8-from_IsUtf8}
 use Rattle.serde_json.specs.Data.{Data}
 use Rattle.serde_json.specs.Read.{read}
-use Rattle.bm_json.specs.declared.faults.JsonError.{JsonError}
-use Rattle.bm_json.specs.declared.faults.JsonError.TheVariants.{NoMemory, Fault}
+use Rattle.list_types.specs.declared.memory.Refusal.{Refusal}
+use Rattle.list_types.specs.declared.memory.Refusal.TheVariants.{NoMemory, For}
+use Rattle.bm_json.specs.declared.faults.JsonFault.{JsonFault}
 use Rattle.bm_json.specs.Program.{IsOfRule, Refused, json_in, program_in, flaw_of, flaw_by, Answers}
 use Rattle.bm_records.specs.declared.raw.RawProgram.{RawProgram}
 
 -- what is told of the rule L1 is a refusal where nothing is read
-pub refuses : {A : Type 0} (e : JsonError) (read : Option A) → IsOfRule e 1 → read ≡ None → Refused e read
+pub refuses : {A : Type 0} (e : Refusal JsonFault) (read : Option A) → IsOfRule e 1 → read ≡ None → Refused e read
 refuses NoMemory read rule none = tt
-refuses (Fault fault) read rule none = (none, rule)
+refuses (For fault) read rule none = (none, rule)
 
 text_is : (b : Bool) (bytes text : List ℕ) (found : Option Data) → b ≡ true → text ≡ bytes → read text ≡ found → cond b (read bytes) None ≡ found
 text_is true bytes text found h e r = ap read (sym e) ∙ r
@@ -32,11 +33,11 @@ pub of_no_text : (bytes : List ℕ) → (IsUtf8 bytes → ⊥) → json_in bytes
 of_no_text bytes h = no_text_if (is_utf8 bytes) bytes refl h
 
 -- what is told of a rule is the answer where that rule is the first
-pub breaks : (bytes : List ℕ) (e : JsonError) (program : RawProgram) (rule : ℕ) → IsOfRule e rule → program_in bytes ≡ Some program → flaw_of program ≡ Some rule → Answers bytes (Err e)
+pub breaks : (bytes : List ℕ) (e : Refusal JsonFault) (program : RawProgram) (rule : ℕ) → IsOfRule e rule → program_in bytes ≡ Some program → flaw_of program ≡ Some rule → Answers bytes (Err e)
 breaks bytes NoMemory program rule is found broken = tt
-breaks bytes (Fault fault) program rule is found broken = ap flaw_by found ∙ (broken ∙ ap Some (sym is))
+breaks bytes (For fault) program rule is found broken = ap flaw_by found ∙ (broken ∙ ap Some (sym is))
 
 -- a refusal by the rule L1 is the answer
-pub is_first : (bytes : List ℕ) (e : JsonError) → Refused e (program_in bytes) → Answers bytes (Err e)
+pub is_first : (bytes : List ℕ) (e : Refusal JsonFault) → Refused e (program_in bytes) → Answers bytes (Err e)
 is_first bytes NoMemory refused = tt
-is_first bytes (Fault fault) refused = ap flaw_by refused.0 ∙ ap Some (sym refused.1)
+is_first bytes (For fault) refused = ap flaw_by refused.0 ∙ ap Some (sym refused.1)

@@ -1,9 +1,10 @@
 -- Forms of a program that are left out (this project's profile of the BMv2 JSON form).
-use Rattle.std.specs.Prelude.{ℕ, ◌+◌, ◌%◌, ◌==◌, Bool, true, false, ◌&&◌, ◌||◌, not, List, Option, Some, None, fold}
-use Rattle.std.specs.List.{list_any, find}
-use Rattle.std.specs.Str.{bytes_eq}
+use Rattle.std.specs.Prelude.{ℕ, ◌%◌, ◌==◌, Bool, true, false, ◌&&◌, ◌||◌, not, List, Option, Some, None, sum_by}
+use Rattle.std.specs.List.{list_any}
+use Rattle.name_index.specs.Names.{named}
 use Rattle.bm_values.specs.declared.raw.Part.{Part}
 use Rattle.bm_values.specs.declared.raw.Part.TheVariants as parts
+use Rattle.bm_values.specs.Literals.{width_bits}
 use Rattle.bm_records.specs.declared.raw.TypeField.{TypeField}
 use Rattle.bm_records.specs.declared.raw.HeaderType.{HeaderType}
 use Rattle.bm_records.specs.declared.raw.Header.{Header}
@@ -141,18 +142,13 @@ abbrev pub pipeline_left_out : Pipeline → Bool
 pipeline_left_out pipeline =
     list_any table_left_out pipeline.tables || list_any (λ profile. selector_left_out profile.selector) pipeline.action_profiles || list_any (λ conditional. expression_left_out conditional.expression) pipeline.conditionals
 
--- the bits of a width; one that is left out counts as 0
-abbrev pub width_bits : Part ℕ → ℕ
-width_bits (parts.Served bits) = bits
-width_bits parts.LeftOut = 0
-
 -- the bits of fields behind whole bytes
 abbrev pub bits_over : List TypeField → ℕ
-bits_over fields = fold (λ bits field. (bits + width_bits field.width) % 8) 0 fields
+bits_over fields = sum_by (λ field. width_bits field.width) fields % 8
 
 -- the first header type of a name, if there is one
 abbrev pub type_named : List HeaderType → List ℕ → Option HeaderType
-type_named types name = find (λ type. bytes_eq type.name name) types
+type_named types name = named (λ type. type.name) name types
 
 -- there is a header type, and the served widths of its fields do not fill whole bytes
 abbrev pub is_ragged_type : Option HeaderType → Bool
@@ -174,7 +170,7 @@ is_ragged_header types (Some header) = has_ragged_type types header
 
 -- the first header of a name, if there is one
 abbrev pub header_named : List Header → List ℕ → Option Header
-header_named headers name = find (λ header. bytes_eq header.name name) headers
+header_named headers name = named (λ header. header.name) name headers
 
 -- the first header of a name is not whole bytes
 abbrev pub names_ragged : List HeaderType → List Header → List ℕ → Bool

@@ -1,5 +1,5 @@
 -- The limits of a program (this project's profile).
-use Rattle.std.specs.Prelude.{ℕ, ◌+◌, ◌-◌, nat_lt, Bool, true, false, ◌||◌, not, if◌then◌else◌, List, [], ◌∷◌, length, count_by, Option, Some, None}
+use Rattle.std.specs.Prelude.{ℕ, ◌+◌, nat_lt, Bool, ◌||◌, not, List, length, count_by, sum_by, Option, Some, None}
 use Rattle.std.specs.List.{list_any}
 use Rattle.bm_records.specs.declared.raw.HeaderType.{HeaderType}
 use Rattle.bm_records.specs.declared.raw.Header.{Header}
@@ -19,10 +19,9 @@ fields_in (Some type) = length type.fields
 abbrev pub fields_of : List HeaderType → Header → ℕ
 fields_of types header = fields_in (type_named types header.header_type)
 
--- the headers have more fields together than there is room for
+-- the headers have more than so many fields together
 abbrev pub has_more_fields : ℕ → List HeaderType → List Header → Bool
-has_more_fields room types [] = false
-has_more_fields room types (header ∷ rest) = if nat_lt room (fields_of types header) then true else has_more_fields (room - fields_of types header) types rest
+has_more_fields most types headers = nat_lt most (sum_by (fields_of types) headers)
 
 -- 8 parameters and 64 primitives of an action
 abbrev pub action_exceeds : Action → Bool

@@ -3,10 +3,12 @@ use Rattle.std.specs.Prelude.{◌≡◌, ℕ, nat_lt, Bool, ◌||◌, if◌then�
 use Rattle.std.specs.Str.{is_utf8}
 use Rattle.serde_json.specs.Data.{Data}
 use Rattle.serde_json.specs.Read.{read}
-use Rattle.bm_json.specs.declared.faults.JsonError.{JsonError}
-use Rattle.bm_json.specs.declared.faults.JsonError.TheVariants.{NoMemory, Fault}
+use Rattle.list_types.specs.declared.memory.Refusal.{Refusal}
+use Rattle.list_types.specs.declared.memory.Refusal.TheVariants.{NoMemory, For}
+use Rattle.bm_json.specs.declared.faults.JsonFault.{JsonFault}
 use Rattle.bm_records.specs.declared.raw.RawProgram.{RawProgram}
-use Rattle.json_shapes.specs.Shapes.{◌>>=◌, required, list_of, list_or_empty, list_unless_absent, has_items}
+use Rattle.list_types.specs.Options.{◌>>=◌}
+use Rattle.json_shapes.specs.Shapes.{required, list_of, list_or_empty, list_unless_absent, has_items}
 use Rattle.json_shapes.specs.Arrays.{only_of}
 use Rattle.bm_records.specs.Primitives.{action_of}
 use Rattle.bm_records.specs.Parsers.{parser_of, deparser_of}
@@ -52,17 +54,17 @@ unfoldable pub program_in : List ℕ → Option RawProgram
 program_in bytes = if nat_lt 4194304 (length bytes) then None else json_in bytes >>= program_of
 
 -- the fault is of this rule, unless there was no memory to tell it
-abbrev pub IsOfRule : JsonError → ℕ → Type 0
+abbrev pub IsOfRule : Refusal JsonFault → ℕ → Type 0
 IsOfRule NoMemory rule = Unit {0}
-IsOfRule (Fault fault) rule = fault.rule ≡ rule
+IsOfRule (For fault) rule = fault.rule ≡ rule
 
 -- why nothing is answered: there is no memory, or nothing is read, by the rule L1
-abbrev pub Refused : {A : Type 0} → JsonError → Option A → Type 0
+abbrev pub Refused : {A : Type 0} → Refusal JsonFault → Option A → Type 0
 Refused NoMemory read = Unit {0}
-Refused (Fault fault) read = (read ≡ None) × (fault.rule ≡ 1)
+Refused (For fault) read = (read ≡ None) × (fault.rule ≡ 1)
 
 -- the answer, seen by view, is what is read, unless it is refused
-abbrev pub Finds : {A B : Type 0} → (A → B) → Result A JsonError → Option B → Type 0
+abbrev pub Finds : {A B : Type 0} → (A → B) → Result A (Refusal JsonFault) → Option B → Type 0
 Finds view (Ok x) read = read ≡ Some (view x)
 Finds view (Err e) read = Refused e read
 
@@ -80,7 +82,7 @@ abbrev pub flaw : List ℕ → Option ℕ
 flaw bytes = flaw_by (program_in bytes)
 
 -- the answer is what is read, where no rule is broken, or the rule that is broken first, unless there is no memory
-abbrev pub Answers : List ℕ → Result RawProgram JsonError → Type 0
+abbrev pub Answers : List ℕ → Result RawProgram (Refusal JsonFault) → Type 0
 Answers bytes (Ok program) = (program_in bytes ≡ Some program) × (flaw bytes ≡ None)
 Answers bytes (Err NoMemory) = Unit {0}
-Answers bytes (Err (Fault fault)) = flaw bytes ≡ Some fault.rule
+Answers bytes (Err (For fault)) = flaw bytes ≡ Some fault.rule

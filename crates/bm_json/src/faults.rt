@@ -7,10 +7,3 @@ pub struct JsonFault {
     pub rule: u8,
     pub at: Text,
 }
-
-/// Why there are no raw records.
-#[derive(Drop)]
-pub enum JsonError {
-    NoMemory,
-    Fault(JsonFault),
-}

@@ -2,15 +2,17 @@
 ghost use Rattle.std.specs.Prelude.{◌≡◌};
 ghost use Rattle.std.specs.List.{list_any};
 ghost use Rattle.std.specs.Option.{option_copied};
-ghost use Rattle.bm_json.specs.LeftOut.{is_left_out, type_left_out, expression_left_out, condition_left_out, name_left_out, primitive_left_out, action_left_out, parser_op_left_out, match_left_out, mask_left_out, transition_left_out, state_left_out, input_left_out, calculation_left_out, checksum_left_out, learn_list_left_out, default_left_out, table_left_out, selector_left_out, pipeline_left_out, width_bits, bits_over, type_named, has_ragged_type, is_ragged, header_named, names_ragged, extracts_ragged, packets_left_out, headers_left_out, objects_left_out, steps_left_out, has_left_out};
+ghost use Rattle.bm_json.specs.LeftOut.{is_left_out, type_left_out, expression_left_out, condition_left_out, name_left_out, primitive_left_out, action_left_out, parser_op_left_out, match_left_out, mask_left_out, transition_left_out, state_left_out, input_left_out, calculation_left_out, checksum_left_out, learn_list_left_out, default_left_out, table_left_out, selector_left_out, pipeline_left_out, bits_over, type_named, has_ragged_type, is_ragged, names_ragged, extracts_ragged, packets_left_out, headers_left_out, objects_left_out, steps_left_out, has_left_out};
 
 use bm_records::raw::{
     Action, ActionProfile, Calculation, CalculationInput, Checksum, Conditional, Datum,
     DefaultEntry, Expression, Header, HeaderType, LearnList, LearnListName, MatchValue, Node,
-    ParseState, ParserOp, Part, Pipeline, Primitive, RawLiteral, RawProgram, RawWidth, Selector,
-    Table, Transition, TypeField,
+    ParseState, ParserOp, Part, Pipeline, Primitive, RawLiteral, RawProgram, Selector, Table,
+    Transition, TypeField,
 };
+use bm_values::literals::width_bits;
 use list_types::Text;
+use name_index::Index;
 
 fn is_left_out<T>(part: &Part<T>) -> bool
     ensures { result ≡ is_left_out part.now }
@@ -241,15 +243,7 @@ fn pipeline_left_out(pipeline: &Pipeline) -> bool
         || any_conditional(pipeline.conditionals.as_slice())
 }
 
-fn width_bits(width: &RawWidth) -> u32
-    ensures { result ≡ width_bits width.now }
-{
-    match width {
-        Part::Served(bits) => *bits,
-        Part::LeftOut => 0,
-    }
-}
-
+#[tactic(auto, using(bm_records::proofs::Together::over_more))]
 fn bits_over(fields: &[TypeField]) -> u64
     ensures { result ≡ bits_over fields.now }
 {
@@ -260,62 +254,55 @@ fn bits_over(fields: &[TypeField]) -> u64
     bits
 }
 
-pub(crate) fn type_named<'a>(types: &'a [HeaderType], name: &str) -> Option<&'a HeaderType>
-    ensures { option_copied result ≡ type_named types.now name.now }
+/// The header type of a header.
+pub(crate) fn type_of<'a>(types: &Index<'a, HeaderType>, header: &Header) -> Option<&'a HeaderType>
+    ensures { option_copied result ≡ type_named types.now header.now.header_type }
 {
-    types
-        .iter()
-        .find(|header_type| header_type.name.as_str() == name)
+    types.named(&header.header_type)
 }
 
-fn has_ragged_type(types: &[HeaderType], header: &Header) -> bool
+fn has_ragged_type(types: &Index<HeaderType>, header: &Header) -> bool
     ensures { result ≡ has_ragged_type types.now header.now }
 {
-    match type_named(types, header.header_type.as_str()) {
+    match type_of(types, header) {
         None => false,
         Some(header_type) => bits_over(header_type.fields.as_slice()) != 0,
     }
 }
 
-fn is_ragged(types: &[HeaderType], header: &Header) -> bool
+fn is_ragged(types: &Index<HeaderType>, header: &Header) -> bool
     ensures { result ≡ is_ragged types.now header.now }
 {
     !header.metadata && has_ragged_type(types, header)
 }
 
-fn header_named<'a>(headers: &'a [Header], name: &str) -> Option<&'a Header>
-    ensures { option_copied result ≡ header_named headers.now name.now }
-{
-    headers.iter().find(|header| header.name.as_str() == name)
-}
-
-fn names_ragged(types: &[HeaderType], headers: &[Header], name: &str) -> bool
+fn names_ragged(types: &Index<HeaderType>, headers: &Index<Header>, name: &Text) -> bool
     ensures { result ≡ names_ragged types.now headers.now name.now }
 {
-    match header_named(headers, name) {
+    match headers.named(name) {
         None => false,
         Some(header) => has_ragged_type(types, header),
     }
 }
 
-fn extracts_ragged(types: &[HeaderType], headers: &[Header], op: &ParserOp) -> bool
+fn extracts_ragged(types: &Index<HeaderType>, headers: &Index<Header>, op: &ParserOp) -> bool
     ensures { result ≡ extracts_ragged types.now headers.now op.now }
 {
     match op {
-        ParserOp::Extract(Part::Served(name)) => names_ragged(types, headers, name.as_str()),
+        ParserOp::Extract(Part::Served(name)) => names_ragged(types, headers, name),
         _ => false,
     }
 }
 
-fn any_extracts_ragged(types: &[HeaderType], headers: &[Header], ops: &[ParserOp]) -> bool
+fn any_extracts_ragged(types: &Index<HeaderType>, headers: &Index<Header>, ops: &[ParserOp]) -> bool
     ensures { result ≡ list_any (extracts_ragged types.now headers.now) ops.now }
 {
     ops.iter().any(|op| extracts_ragged(types, headers, op))
 }
 
 fn any_state_extracts_ragged(
-    types: &[HeaderType],
-    headers: &[Header],
+    types: &Index<HeaderType>,
+    headers: &Index<Header>,
     states: &[ParseState],
 ) -> bool
     ensures { result ≡ list_any (λ state. list_any (extracts_ragged types.now headers.now) state.parser_ops) states.now }
@@ -323,19 +310,21 @@ fn any_state_extracts_ragged(
     states.iter().any(|state| any_extracts_ragged(types, headers, state.parser_ops.as_slice()))
 }
 
-fn any_name_ragged(types: &[HeaderType], headers: &[Header], names: &[Text]) -> bool
+fn any_name_ragged(types: &Index<HeaderType>, headers: &Index<Header>, names: &[Text]) -> bool
     ensures { result ≡ list_any (names_ragged types.now headers.now) names.now }
 {
-    names
-        .iter()
-        .any(|name| names_ragged(types, headers, name.as_str()))
+    names.iter().any(|name| names_ragged(types, headers, name))
 }
 
-fn packets_left_out(program: &RawProgram) -> bool
+fn packets_left_out(
+    types: &Index<HeaderType>,
+    headers: &Index<Header>,
+    program: &RawProgram,
+) -> bool
+    requires types { types.now ≡ program.now.header_types }
+    requires headers { headers.now ≡ program.now.headers }
     ensures { result ≡ packets_left_out program.now }
 {
-    let types = program.header_types.as_slice();
-    let headers = program.headers.as_slice();
     any_name_ragged(types, headers, program.deparser.order.as_slice())
         || any_state_extracts_ragged(types, headers, program.parser.parse_states.as_slice())
 }
@@ -346,17 +335,19 @@ fn any_type(items: &[HeaderType]) -> bool
     items.iter().any(|item| type_left_out(item))
 }
 
-fn any_ragged(types: &[HeaderType], headers: &[Header]) -> bool
+fn any_ragged(types: &Index<HeaderType>, headers: &[Header]) -> bool
     ensures { result ≡ list_any (is_ragged types.now) headers.now }
 {
     headers.iter().any(|header| is_ragged(types, header))
 }
 
-fn headers_left_out(program: &RawProgram) -> bool
+fn headers_left_out(types: &Index<HeaderType>, program: &RawProgram) -> bool
+    requires { types.now ≡ program.now.header_types }
     ensures { result ≡ headers_left_out program.now }
 {
-    let types = program.header_types.as_slice();
-    program.lists_left_out || any_type(types) || any_ragged(types, program.headers.as_slice())
+    program.lists_left_out
+        || any_type(program.header_types.as_slice())
+        || any_ragged(types, program.headers.as_slice())
 }
 
 fn any_calculation(items: &[Calculation]) -> bool
@@ -406,13 +397,19 @@ fn steps_left_out(program: &RawProgram) -> bool
         || pipeline_left_out(&program.pipelines.egress)
 }
 
-/// Whether the program has a form that is left out.
+/// Whether the program, of which these are the header types and the headers, has a form that is left out.
 #[tactic(auto, unfolding(crate::specs::LeftOut::has_left_out))]
-pub(crate) fn has_left_out(program: &RawProgram) -> bool
+pub(crate) fn has_left_out(
+    types: &Index<HeaderType>,
+    headers: &Index<Header>,
+    program: &RawProgram,
+) -> bool
+    requires types { types.now ≡ program.now.header_types }
+    requires headers { headers.now ≡ program.now.headers }
     ensures { result ≡ has_left_out program.now }
 {
-    headers_left_out(program)
-        || packets_left_out(program)
+    headers_left_out(types, program)
+        || packets_left_out(types, headers, program)
         || objects_left_out(program)
         || steps_left_out(program)
 }

@@ -8,5 +8,5 @@ mod limits;
 mod program;
 
 pub use bm_records::raw;
-pub use faults::{JsonError, JsonFault};
+pub use faults::JsonFault;
 pub use program::read_json;

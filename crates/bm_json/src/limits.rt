@@ -7,17 +7,19 @@ use crate::left_out;
 use bm_records::raw::{
     Action, CounterArray, Header, HeaderType, LearnList, Pipelines, RawProgram, Table,
 };
+use name_index::Index;
 
-fn fields_of(types: &[HeaderType], header: &Header) -> usize
+fn fields_of(types: &Index<HeaderType>, header: &Header) -> usize
     ensures { result ≡ fields_of types.now header.now }
 {
-    match left_out::type_named(types, header.header_type.as_str()) {
+    match left_out::type_of(types, header) {
         None => 0,
         Some(header_type) => header_type.fields.len(),
     }
 }
 
-fn has_more_fields(most: usize, types: &[HeaderType], headers: &[Header]) -> bool
+#[tactic(auto, using(bm_records::proofs::Together::exceeds_most))]
+fn has_more_fields(most: usize, types: &Index<HeaderType>, headers: &[Header]) -> bool
     ensures { result ≡ has_more_fields most types.now headers.now }
 {
     let mut room = most;
@@ -85,10 +87,10 @@ fn pipelines_exceed(pipelines: &Pipelines) -> bool
         || keys_exceed(egress.tables.as_slice())
 }
 
-fn headers_exceed(program: &RawProgram) -> bool
+fn headers_exceed(types: &Index<HeaderType>, program: &RawProgram) -> bool
+    requires { types.now ≡ program.now.header_types }
     ensures { result ≡ headers_exceed program.now }
 {
-    let types = program.header_types.as_slice();
     program.headers.len() > 128 || has_more_fields(1024, types, program.headers.as_slice())
 }
 
@@ -118,12 +120,13 @@ fn objects_exceed(program: &RawProgram) -> bool
         || program.parser.parse_states.len() > 256
 }
 
-/// Whether the program exceeds a limit.
+/// Whether the program, of which these are the header types, exceeds a limit.
 #[tactic(auto, unfolding(crate::specs::Limits::exceeds))]
-pub(crate) fn exceeds(program: &RawProgram) -> bool
+pub(crate) fn exceeds(types: &Index<HeaderType>, program: &RawProgram) -> bool
+    requires { types.now ≡ program.now.header_types }
     ensures { result ≡ exceeds program.now }
 {
-    headers_exceed(program)
+    headers_exceed(types, program)
         || counters_exceed(program.counter_arrays.as_slice())
         || pipelines_exceed(&program.pipelines)
         || learn_lists_exceed(program.learn_lists.as_slice())

@@ -1,17 +1,17 @@
 //! A program, and the bytes that it stands in.
-ghost use Rattle.std.specs.Prelude.{◌≡◌, codes};
+ghost use Rattle.std.specs.Prelude.{◌≡◌, codes, IfOk};
 ghost use Rattle.serde_json.specs.View.{view};
 ghost use Rattle.json_shapes.specs.Shapes.{required, list_or_empty, list_unless_absent};
 ghost use Rattle.bm_records.specs.Objects.{error_of};
 ghost use Rattle.bm_json.specs.Program.{lists_state, lists_stacks, lists_left_out, program_of, json_in, program_in, flaw_of, Answers, Finds, IsOfRule};
 
-use crate::faults::{JsonError, JsonFault};
+use crate::faults::JsonFault;
 use crate::{left_out, limits};
 use bm_records::raw::{Deparser, ErrorNumber, Parser, RawProgram};
-use json_shapes::ShapeError;
 use json_shapes::arrays::Only;
 use json_shapes::shapes::{self, FromJson};
-use list_types::{List, Text};
+use list_types::{List, NoMemory, Refusal, Text};
+use name_index::Index;
 use serde_json::Value;
 use std::alloc::Global;
 
@@ -43,53 +43,57 @@ fn lists_left_out(value: &Value) -> bool
     lists_state(value) || lists_stacks(value)
 }
 
-fn at_rule(alloc: Global, rule: u8, place: &str) -> JsonError
+fn at_rule(alloc: Global, rule: u8, place: &str) -> Refusal<JsonFault>
     ensures { IsOfRule result rule }
 {
     match String::from_str(alloc, place) {
-        Ok(place) => JsonError::Fault(JsonFault {
+        Ok(place) => Refusal::For(JsonFault {
             rule,
             at: Text::from_string(place),
         }),
-        Err(_) => JsonError::NoMemory,
+        Err(_) => Refusal::NoMemory,
     }
 }
 
 #[tactic(auto, using(crate::proofs::Refusals::refuses))]
-fn member<T: FromJson>(alloc: Global, value: &Value, name: &str) -> Result<T, JsonError>
+fn member<T: FromJson>(alloc: Global, value: &Value, name: &str) -> Result<T, Refusal<JsonFault>>
     ensures { Finds (λ x. x) result (required T.shape name.now (view value.now)) }
 {
     match shapes::required(alloc, value, name) {
         Ok(member) => Ok(member),
-        Err(ShapeError::NoMemory) => Err(JsonError::NoMemory),
-        Err(ShapeError::Shape) => Err(at_rule(alloc, 1, name)),
+        Err(Refusal::NoMemory) => Err(Refusal::NoMemory),
+        Err(Refusal::For(_)) => Err(at_rule(alloc, 1, name)),
     }
 }
 
 #[tactic(auto, using(crate::proofs::Refusals::refuses))]
-fn list<T: FromJson>(alloc: Global, value: &Value, name: &str) -> Result<List<T>, JsonError>
+fn list<T: FromJson>(
+    alloc: Global,
+    value: &Value,
+    name: &str,
+) -> Result<List<T>, Refusal<JsonFault>>
     ensures { Finds (λ x. x) result (list_or_empty T.shape name.now (view value.now)) }
 {
     match shapes::list_or_empty(alloc, value, name) {
         Ok(list) => Ok(list),
-        Err(ShapeError::NoMemory) => Err(JsonError::NoMemory),
-        Err(ShapeError::Shape) => Err(at_rule(alloc, 1, name)),
+        Err(Refusal::NoMemory) => Err(Refusal::NoMemory),
+        Err(Refusal::For(_)) => Err(at_rule(alloc, 1, name)),
     }
 }
 
 #[tactic(auto, using(crate::proofs::Refusals::refuses))]
-fn errors(alloc: Global, value: &Value) -> Result<List<ErrorNumber>, JsonError>
+fn errors(alloc: Global, value: &Value) -> Result<List<ErrorNumber>, Refusal<JsonFault>>
     ensures { Finds (λ x. x) result (list_unless_absent error_of (codes "errors") (view value.now)) }
 {
     match shapes::list_unless_absent(alloc, value, "errors") {
         Ok(errors) => Ok(errors),
-        Err(ShapeError::NoMemory) => Err(JsonError::NoMemory),
-        Err(ShapeError::Shape) => Err(at_rule(alloc, 1, "errors")),
+        Err(Refusal::NoMemory) => Err(Refusal::NoMemory),
+        Err(Refusal::For(_)) => Err(at_rule(alloc, 1, "errors")),
     }
 }
 
 #[tactic(auto, unfolding(crate::specs::Program::program_of))]
-fn program_of(alloc: Global, value: &Value) -> Result<RawProgram, JsonError>
+fn program_of(alloc: Global, value: &Value) -> Result<RawProgram, Refusal<JsonFault>>
     ensures { Finds (λ x. x) result (program_of (view value.now)) }
 {
     let header_types = member(alloc, value, "header_types")?;
@@ -121,7 +125,7 @@ fn program_of(alloc: Global, value: &Value) -> Result<RawProgram, JsonError>
 }
 
 #[tactic(auto, using(crate::proofs::Refusals::refuses))]
-fn json_in(alloc: Global, bytes: &[u8]) -> Result<Value, JsonError>
+fn json_in(alloc: Global, bytes: &[u8]) -> Result<Value, Refusal<JsonFault>>
     ensures { Finds view result (json_in bytes.now) }
 {
     match str::from_utf8(bytes) {
@@ -130,7 +134,7 @@ fn json_in(alloc: Global, bytes: &[u8]) -> Result<Value, JsonError>
             Ok(value) => Ok(value),
             Err(error) => {
                 if error.is_memory() {
-                    Err(JsonError::NoMemory)
+                    Err(Refusal::NoMemory)
                 } else {
                     Err(at_rule(alloc, 1, "JSON"))
                 }
@@ -140,7 +144,7 @@ fn json_in(alloc: Global, bytes: &[u8]) -> Result<Value, JsonError>
 }
 
 #[tactic(auto, unfolding(crate::specs::Program::program_in), using(crate::proofs::Refusals::refuses))]
-fn program_in(alloc: Global, bytes: &[u8]) -> Result<RawProgram, JsonError>
+fn program_in(alloc: Global, bytes: &[u8]) -> Result<RawProgram, Refusal<JsonFault>>
     ensures { Finds (λ x. x) result (program_in bytes.now) }
 {
     if bytes.len() > LONGEST {
@@ -150,29 +154,29 @@ fn program_in(alloc: Global, bytes: &[u8]) -> Result<RawProgram, JsonError>
     program_of(alloc, &value)
 }
 
-fn flaw_of(program: &RawProgram) -> Option<u8>
-    ensures { result ≡ flaw_of program.now }
+fn flaw_of(alloc: Global, program: &RawProgram) -> Result<Option<u8>, NoMemory>
+    ensures { IfOk result (λ rule. rule ≡ flaw_of program.now) }
 {
-    if left_out::has_left_out(program) {
-        Some(2)
-    } else if limits::exceeds(program) {
-        Some(3)
-    } else {
-        None
+    let types = Index::of(alloc, program.header_types.as_slice())?;
+    let headers = Index::of(alloc, program.headers.as_slice())?;
+    if left_out::has_left_out(&types, &headers, program) {
+        return Ok(Some(2));
     }
+    if limits::exceeds(&types, program) {
+        return Ok(Some(3));
+    }
+    Ok(None)
 }
 
 /// The raw records of a program in BMv2's JSON form, or the first rule of L1 to L3 that it breaks: it
 /// is not JSON of the profile's shapes, it has a form that is left out, or it exceeds a limit.
 #[tactic(auto, using(crate::proofs::Refusals::breaks, crate::proofs::Refusals::is_first))]
-pub fn read_json(alloc: Global, bytes: &[u8]) -> Result<RawProgram, JsonError>
+pub fn read_json(alloc: Global, bytes: &[u8]) -> Result<RawProgram, Refusal<JsonFault>>
     ensures { Answers bytes.now result }
 {
-    match program_in(alloc, bytes) {
-        Err(error) => Err(error),
-        Ok(program) => match flaw_of(&program) {
-            None => Ok(program),
-            Some(rule) => Err(at_rule(alloc, rule, "program")),
-        },
+    let program = program_in(alloc, bytes)?;
+    match flaw_of(alloc, &program)? {
+        None => Ok(program),
+        Some(rule) => Err(at_rule(alloc, rule, "program")),
     }
 }

@@ -1,8 +1,7 @@
 -- The first rule that a program breaks, from what its parts answer.
 use Rattle.std.proofs.Common.{◌≡◌, ℕ, List, Some, None, Result, Ok, Err, ap, ap₂, sym, ◌∙◌}
 use Rattle.bm_json.specs.Program as json
-use Rattle.bm_json.specs.declared.faults.JsonError.{JsonError}
-use Rattle.bm_json.specs.declared.faults.JsonError.TheVariants.{NoMemory, Fault}
+use Rattle.bm_json.specs.declared.faults.JsonFault.{JsonFault}
 use Rattle.bm_records.specs.declared.raw.RawProgram.{RawProgram}
 use Rattle.bm_rules.specs.Flaw as rules
 use Rattle.p4_types.specs.declared.info.Info.{Info}
@@ -37,6 +36,6 @@ links bytes info raw (Err refusals.NoMemory) is none linked_raw = tt
 links bytes info raw (Err (refusals.For fault)) is none linked_raw = of_raw bytes info raw is none ∙ linked_raw
 
 -- what is answered where none are read
-pub refused : (bytes : List ℕ) (info : Info) (error : JsonError) → (let answer : Result RawProgram JsonError = Err error in json.Answers bytes answer) → IsRefused (refusal_of error) (program_flaw bytes info)
-refused bytes info NoMemory answers = tt
-refused bytes info (Fault fault) answers = of_fault bytes info fault.rule answers
+pub refused : (bytes : List ℕ) (info : Info) (refusal : Refusal JsonFault) → (let answer : Result RawProgram (Refusal JsonFault) = Err refusal in json.Answers bytes answer) → IsRefused (refusal_of refusal) (program_flaw bytes info)
+refused bytes info refusals.NoMemory answers = tt
+refused bytes info (refusals.For fault) answers = of_fault bytes info fault.rule answers

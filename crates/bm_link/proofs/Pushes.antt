@@ -1,8 +1,8 @@
 -- What one more item adds.
-use Rattle.std.proofs.Common.{◌≡◌, ℕ, ◌+◌, ◌<◌, min, refl, sym, ap, ◌∙◌, subst, is_some, Bool, true, false, ◌||◌, cond, Bor, List, [], ◌∷◌, ◌++◌, length, take, get_or, Option, Some, None, if◌then◌else◌, option_map, sum_by, arith}
+use Rattle.std.proofs.Common.{◌≡◌, ℕ, ◌+◌, ◌<◌, min, refl, sym, ap, ◌∙◌, subst, Bool, true, false, ◌||◌, cond, Bor, List, [], ◌∷◌, ◌++◌, length, take, get_or, Option, Some, None, option_map, sum_by, arith}
 use Rattle.std.specs.BTreeMap.{BTreeMap, UpdatesBy}
 use Rattle.std.specs.Cmp.Lexicographic.{slice_cmp}
-use Rattle.std.specs.List.{position, find, zip, slice_get}
+use Rattle.std.specs.List.{find, zip, slice_get}
 use Rattle.std.specs.Option.{option_or}
 use Rattle.std.specs.Ordering.{nat_cmp}
 use Rattle.std.specs.Str.{bytes_eq}
@@ -13,11 +13,9 @@ use Rattle.std.proofs.lemmas.Option.{get_or_from_slice_get}
 use Rattle.std.proofs.lemmas.List.Folds.{find-append}
 use Rattle.std.proofs.lemmas.List.Sums.{sum_by-cons}
 use Rattle.std.proofs.lemmas.Map.Text.{btree_map_updates_str}
-use Rattle.std.proofs.lemmas.Slice.Eq.{bytes_eq-Decides}
 use Rattle.std.proofs.lemmas.Slice.Zip.{length-zip, get_or-zip}
 use Rattle.p4_types.specs.declared.info.Info.{Info}
 use Rattle.p4_types.specs.declared.info.Table as info_tables
-use Rattle.p4info_model.proofs.Positions.{position_push}
 use Rattle.bm_pipeline.specs.declared.headers.Header as pipeline
 use Rattle.bm_records.specs.declared.raw.Header.{Header}
 use Rattle.bm_records.specs.declared.raw.RawProgram.{RawProgram}
@@ -26,17 +24,12 @@ use Rattle.bm_rules.specs.Fields.{fields_of}
 use Rattle.link_spec.specs.Fields.{fields_before, header_of, headers_from}
 use Rattle.bm_pipeline.specs.declared.tables.TableAction.{TableAction}
 use Rattle.link_spec.specs.Tables.{Side, is_among, reference_in, action_place, next_on, table_action, table_actions}
-use Rattle.bm_link.specs.Places.{at_name, PutsFirst, Takes}
+use Rattle.bm_link.specs.Places.{Takes}
 use Rattle.bm_link.specs.References.{AreLeft, behind}
+use Rattle.name_index.specs.Places.{at_name}
 
 length_front : {X : Type 0} (xs : List X) (i : ℕ) → i < length xs → length (take i xs) ≡ i
 length_front xs i l = grind (arith, common_steps)
-
--- the first place of what passes a test, with one more
-pub place_more : {X : Type 0} (p : X → Bool) (xs : List X) (i : ℕ) (d : X) (b : Bool) (before after : Option ℕ) → i < length xs → b ≡ p (get_or xs i d) → before ≡ position p (take i xs)
-    → after ≡ option_or before (if b then Some i else None) → after ≡ position p (take (i + 1) xs)
-place_more p xs i d b before after l e f a =
-    rw (take_more xs i d l, position_push p (take i xs) (get_or xs i d), ← f, ← e, length_front xs i l) a
 
 header_same : (raw : RawProgram) (place other first another : ℕ) (x : Header) → place ≡ other → first ≡ another → header_of raw place first x ∷ [] ≡ header_of raw other another x ∷ []
 header_same raw place other first another x e f = rw (e, f) refl
@@ -106,23 +99,6 @@ among_by false c left = refl
 pub left_more : (info : Info) (given : Option info_tables.Table) (before : List (List ℕ)) (name : List ℕ) (old new : BTreeMap (Bor (List ℕ)) ℕ) → AreLeft info given before old → Takes old new name → AreLeft info given (name ∷ before) new
 left_more info given before name old new left takes =
     λ q. takes q ∙ (ap (λ o. cond (bytes_eq name q) None o) (left q) ∙ among_by (bytes_eq name q) (is_among before q) (reference_in info q given))
-
-none_of : {V : Type 0} (o : Option V) → is_some o ≡ false → o ≡ None
-none_of None e = refl
-none_of (Some x) e = absurd (let c : ⊥ = cc in c)
-
-first_by : {V : Type 0} (b : Bool) (o : Option V) (value : V) → (b ≡ true → o ≡ None) → cond b (Some value) o ≡ option_or o (cond b (Some value) None)
-first_by true None value h = refl
-first_by true (Some x) value h = absurd (let e : Some x ≡ None = h refl in let c : ⊥ = cc in c)
-first_by false None value h = refl
-first_by false (Some x) value h = refl
-
--- a name that had no value gets one
-pub puts_first : {V : Type 0} (old new : BTreeMap (Bor (List ℕ)) V) (name : List ℕ) (value : V) → is_some (at_name old name) ≡ false
-    → UpdatesBy (λ x y. slice_cmp nat_cmp x.now y.now) (λ k. slice_cmp nat_cmp name k.now) old new (Some value) → PutsFirst old new name value
-puts_first old new name value absent updates =
-    λ q. btree_map_updates_str name old new (Some value) updates q
-    ∙ first_by (bytes_eq name q) (at_name old q) value (λ e. subst (λ other. at_name old other ≡ None) ((bytes_eq-Decides name q).0 e) (none_of (at_name old name) absent))
 
 -- a name that is taken out has none
 pub takes : {V : Type 0} (old new : BTreeMap (Bor (List ℕ)) V) (name : List ℕ) → UpdatesBy (λ x y. slice_cmp nat_cmp x.now y.now) (λ k. slice_cmp nat_cmp name k.now) old new None → Takes old new name

@@ -1,11 +1,10 @@
 -- Fields stand among those of their headers, and these among those of the program.
-use Rattle.std.proofs.Common.{◌≡◌, ℕ, zero, suc, ◌+◌, ◌<◌, ◌≤◌, refl, sym, ap, subst, Bool, true, false, cond, nat_lt, IfSome, List, [], ◌∷◌, length, take, Option, Some, None, option_map, option_and_then, unwrap_or, sum_by, arith}
-use Rattle.std.specs.List.{find, position, position_or_len, slice_get}
+use Rattle.std.proofs.Common.{◌≡◌, ℕ, zero, suc, ◌+◌, ◌<◌, ◌≤◌, refl, ap, List, [], ◌∷◌, length, take, Option, Some, None, option_map, option_and_then, unwrap_or, sum_by, arith}
+use Rattle.std.specs.List.{position, slice_get}
 use Rattle.std.specs.Option.{MatchOption}
 use Rattle.std.specs.Str.{bytes_eq}
-use Rattle.std.proofs.lemmas.Bool.Decides.{nat_tests}
 use Rattle.std.proofs.lemmas.List.Sums.{sum_by-cons}
-use Rattle.p4info_model.proofs.Positions.{find_place}
+use Rattle.name_index.proofs.Firsts.{at_place}
 use Rattle.bm_records.specs.declared.raw.TypeField.{TypeField}
 use Rattle.bm_records.specs.declared.raw.RawProgram.{RawProgram}
 use Rattle.bm_rules.specs.Names.{named}
@@ -27,7 +26,7 @@ behind fields xs (Some i) (Some x) n m l = let h : _ = within (λ x. length (fie
 -- a field of the header of a name stands among those of the program
 pub field_inside : (raw : RawProgram) (header : List ℕ) (n : ℕ) → n < length (fields_named raw header) → fields_before raw (header_at raw header) + n < fields_before raw (length raw.headers)
 field_inside raw header n l =
-    behind (fields_of raw) raw.headers (position (λ x. bytes_eq x.name header) raw.headers) (header_named raw header) n (find_place (λ x. bytes_eq x.name header) raw.headers) l
+    behind (fields_of raw) raw.headers (position (λ x. bytes_eq x.name header) raw.headers) (header_named raw header) n (at_place (λ x. bytes_eq x.name header) raw.headers _ refl) l
 
 by_fields : (found : Option (List TypeField)) (field : List ℕ) → option_and_then (field_among field) found ≡ named (λ x. x.name) field (or_none found)
 by_fields None field = refl
@@ -40,15 +39,3 @@ field_named raw header field = by_fields (option_map (fields_of raw) (header_nam
 -- its bits
 pub bits_named : (raw : RawProgram) (header field : List ℕ) → bits_of_names raw header field ≡ field_bits (named (λ x. x.name) field (fields_named raw header))
 bits_named raw header field = ap field_bits (field_named raw header field)
-
--- what stands at the place of the first that passes a test
-pub at_place : {X : Type 0} (p : X → Bool) (xs : List X) (r : Option ℕ) → r ≡ position p xs → MatchOption r (find p xs ≡ None) (λ i. slice_get xs i ≡ find p xs)
-at_place p xs r e = subst (λ q. MatchOption q (find p xs ≡ None) (λ i. slice_get xs i ≡ find p xs)) (sym e) (find_place p xs)
-
-inside_by : (n l : ℕ) (b : Bool) → b ≡ nat_lt n l → IfSome (cond b (Some n) None) (λ i. i < l)
-inside_by n l true e = grind (arith, nat_tests)
-inside_by n l false e = tt
-
--- its place is inside the list
-pub position_inside : {X : Type 0} (p : X → Bool) (xs : List X) (r : Option ℕ) → r ≡ position p xs → IfSome r (λ i. i < length xs)
-position_inside p xs r e = subst (λ q. IfSome q (λ i. i < length xs)) (sym e) (inside_by (position_or_len p xs) (length xs) (nat_lt (position_or_len p xs) (length xs)) refl)

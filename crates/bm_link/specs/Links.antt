@@ -3,8 +3,7 @@ use Rattle.std.specs.Prelude.{◌≡◌, ℕ, List, Option, Some, None, Result, 
 use Rattle.list_types.specs.declared.memory.Refusal.{Refusal}
 use Rattle.list_types.specs.declared.memory.Refusal.TheVariants as refusals
 use Rattle.p4_types.specs.declared.info.Info.{Info}
-use Rattle.bm_json.specs.declared.faults.JsonError.{JsonError}
-use Rattle.bm_json.specs.declared.faults.JsonError.TheVariants.{NoMemory, Fault}
+use Rattle.bm_json.specs.declared.faults.JsonFault.{JsonFault}
 use Rattle.bm_pipeline.specs.declared.program.Program.{Program}
 use Rattle.bm_records.specs.declared.raw.RawProgram.{RawProgram}
 use Rattle.bm_rules.specs.Flaw as rules
@@ -13,9 +12,9 @@ use Rattle.link_spec.specs.Linked.{program_of, linked}
 use Rattle.bm_link.specs.declared.fault.LinkFault.{LinkFault}
 
 -- what a device configuration without raw records is refused by
-abbrev pub refusal_of : JsonError → Refusal LinkFault
-refusal_of NoMemory = refusals.NoMemory
-refusal_of (Fault fault) = refusals.For (record { rule = fault.rule })
+abbrev pub refusal_of : Refusal JsonFault → Refusal LinkFault
+refusal_of refusals.NoMemory = refusals.NoMemory
+refusal_of (refusals.For fault) = refusals.For (record { rule = fault.rule })
 
 -- why nothing is linked: there is no memory, or this rule is broken first
 abbrev pub IsRefused : Refusal LinkFault → Option ℕ → Type 0

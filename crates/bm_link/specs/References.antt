@@ -9,7 +9,7 @@ use Rattle.p4_types.specs.declared.info.Info.{Info}
 use Rattle.p4_types.specs.declared.info.Table.{Table}
 use Rattle.p4info_model.specs.Lookups.{action_at}
 use Rattle.link_spec.specs.Tables.{has_name, reference_in, is_among}
-use Rattle.bm_link.specs.Places.{at_name}
+use Rattle.name_index.specs.Places.{at_name}
 
 -- the id of the first reference to an action of a name
 abbrev pub reference_among : Info → List ActionRef → List ℕ → Option ℕ

@@ -5,13 +5,14 @@ ghost use Rattle.bm_rules.specs.Fields.{fields_of, field_bits, field_by_names};
 ghost use Rattle.link_spec.specs.Fields.{at, header_at, fields_named, fields_before, header_place, field_by, field_at, field_ref, target_at, part_ref};
 ghost use Rattle.bm_link.specs.Places.{AreFirsts};
 
-use crate::index::Index;
 use bm_expr::{FieldPlace, HeaderPlace};
 use bm_pipeline::headers::FieldRef;
 use bm_records::raw::{FieldName, Header, HeaderType, Part, RawField, RawProgram, TypeField};
-use bm_rules::fields::{bits_of, is_validity};
+use bm_rules::fields::is_validity;
 use bm_rules::names;
+use bm_values::literals::width_bits;
 use list_types::{NoMemory, Text};
+use name_index::Index;
 use std::alloc::Global;
 
 /// The headers of a program and their types, by their names.
@@ -138,7 +139,7 @@ fn bits_among(fields: &[TypeField], name: &str) -> u32
     ensures { result ≡ field_bits (named (λ field. field.name) name.now fields.now) }
 {
     match names::named(fields, name) {
-        Some(field) => bits_of(&field.width),
+        Some(field) => width_bits(&field.width),
         None => 0,
     }
 }

@@ -1,22 +1,22 @@
 //! The headers of a program.
 ghost use Rattle.std.specs.Prelude.{◌≡◌, ◌+◌, ◌<◌, length, map, take, slice_get, sum, IfOk, OnOk};
-ghost use Rattle.bm_rules.specs.Fields.{bits_of};
+ghost use Rattle.bm_values.specs.Literals.{width_bits};
 ghost use Rattle.link_spec.specs.Fields.{header_of, headers_from, fields_before, standard_field, standard_metadata_of};
 
 use crate::fields::{self, Fields};
 use bm_expr::{FieldPlace, HeaderPlace};
 use bm_pipeline::headers::{Header, StandardMetadata};
 use bm_records::raw::{self, TypeField};
-use bm_rules::fields::bits_of;
+use bm_values::literals::width_bits;
 use list_types::{List, NoMemory};
 use std::alloc::Global;
 
 fn widths_of(alloc: Global, fields: &[TypeField]) -> Result<List<u32>, NoMemory>
-    ensures { IfOk result (λ widths. widths ≡ map (λ field. bits_of field.width) fields.now) }
+    ensures { IfOk result (λ widths. widths ≡ map (λ field. width_bits field.width) fields.now) }
 {
     let mut widths = List::new(alloc);
     for field in fields {
-        widths.push(bits_of(&field.width))?;
+        widths.push(width_bits(&field.width))?;
     }
     Ok(widths)
 }

@@ -5,7 +5,6 @@ mod expressions;
 mod fault;
 mod fields;
 mod headers;
-mod index;
 mod nodes;
 mod objects;
 mod pipelines;

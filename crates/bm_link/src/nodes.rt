@@ -4,11 +4,11 @@ ghost use Rattle.bm_rules.specs.Names.{named};
 ghost use Rattle.link_spec.specs.Tables.{node_named, node_of, next_to, next_by};
 ghost use Rattle.bm_link.specs.Sides.{side_of};
 
-use crate::index::Index;
 use crate::sides::Side;
 use bm_pipeline::tables::{Next, Node};
 use bm_records::raw::NextTable;
 use list_types::Text;
+use name_index::Index;
 
 fn node_named(side: &Side, name: &Text) -> Option<Node>
     ensures { result ≡ node_named (side_of side.now) name.now }

@@ -3,7 +3,7 @@ ghost use Rattle.std.specs.Prelude.{◌≡◌, ◌==◌, [], option_map, option_
 ghost use Rattle.std.specs.List.{position};
 ghost use Rattle.bm_rules.specs.Names.{named};
 ghost use Rattle.bm_pipeline.specs.declared.actions.Primitive.TheVariants as primitives;
-ghost use Rattle.bm_rules.specs.Fields.{bits_of};
+ghost use Rattle.bm_values.specs.Literals.{width_bits};
 ghost use Rattle.link_spec.specs.Fields.{header_at, header_place, part_ref, of_part};
 ghost use Rattle.link_spec.specs.Expressions.{truth_of};
 ghost use Rattle.link_spec.specs.Objects.{error_number, errors_of, parser_op_of, mask_of, test_of, state_at, transition_of, state_of, parser_of, counter_at, list_at, primitive_of, action_of, learn_list_of, input_of, calculation_of, checksum_of};
@@ -19,8 +19,8 @@ use bm_pipeline::parser::{ErrorNumbers, KeyTest, ParseState, Parser, ParserOp, T
 use bm_records::raw::{
     self, Datum, Expression, FieldName, LearnListName, MatchValue, Part, RawLiteral, RawProgram,
 };
-use bm_rules::fields::bits_of;
 use bm_rules::names;
+use bm_values::literals::width_bits;
 use list_types::{NoMemory, Text};
 use std::alloc::Global;
 
@@ -250,10 +250,10 @@ impl Link<Primitive> for raw::Primitive {
 }
 
 impl Link<u32> for Datum {
-    ghost meaning = { λ _ _ datum. bits_of datum.width };
+    ghost meaning = { λ _ _ datum. width_bits datum.width };
 
     fn link(&self, _: Global, _: &Scope) -> Result<u32, NoMemory> {
-        Ok(bits_of(&self.width))
+        Ok(width_bits(&self.width))
     }
 }
 
@@ -298,7 +298,7 @@ impl Link<CalculationInput> for raw::CalculationInput {
             }
             raw::CalculationInput::Literal { value, width } => Ok(CalculationInput::Literal {
                 value: bits(value),
-                width: bits_of(width),
+                width: width_bits(width),
             }),
             raw::CalculationInput::LeftOut => Ok(CalculationInput::Literal { value: 0, width: 0 }),
         }

@@ -8,7 +8,7 @@ ghost use Rattle.bm_link.specs.Links.{refusal_of, LinksRaw, Links};
 
 use crate::fault::LinkFault;
 use crate::programs::program;
-use bm_json::{JsonError, read_json};
+use bm_json::{JsonFault, read_json};
 use bm_pipeline::Pipeline;
 use bm_records::raw::RawProgram;
 use list_types::{NoMemory, Refusal};
@@ -39,12 +39,12 @@ fn link_raw(alloc: Global, raw: &RawProgram, info: &P4Info) -> Result<Pipeline, 
     }
 }
 
-fn refusal_of(error: JsonError) -> Refusal<LinkFault>
-    ensures { result ≡ refusal_of error }
+fn refusal_of(refusal: Refusal<JsonFault>) -> Refusal<LinkFault>
+    ensures { result ≡ refusal_of refusal }
 {
-    match error {
-        JsonError::NoMemory => Refusal::NoMemory,
-        JsonError::Fault(fault) => Refusal::For(LinkFault { rule: fault.rule }),
+    match refusal {
+        Refusal::NoMemory => Refusal::NoMemory,
+        Refusal::For(fault) => Refusal::For(LinkFault { rule: fault.rule }),
     }
 }
 
@@ -54,6 +54,6 @@ pub fn link(alloc: Global, info: &P4Info, json: &[u8]) -> Result<Pipeline, Refus
 {
     match read_json(alloc, json) {
         Ok(raw) => link_raw(alloc, &raw, info),
-        Err(error) => Err(refusal_of(error)),
+        Err(refusal) => Err(refusal_of(refusal)),
     }
 }

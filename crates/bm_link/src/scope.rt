@@ -5,11 +5,11 @@ ghost use Rattle.p4_types.specs.declared.info.Info.{Info};
 ghost use Rattle.bm_records.specs.declared.raw.RawProgram.{RawProgram};
 
 use crate::fields::Fields;
-use crate::index::Index;
 use bm_records::raw::{
     Action, ActionProfile, Calculation, CounterArray, LearnList, ParseState, RawProgram,
 };
 use list_types::{List, NoMemory};
+use name_index::Index;
 use p4_types::info;
 use p4info_model::P4Info;
 use std::alloc::Global;

@@ -1,9 +1,9 @@
 //! A pipeline behind another.
 ghost use Rattle.std.specs.Prelude.{◌≡◌, ◌+◌, ◌<◌, ◌^◌, length, IfOk};
 
-use crate::index::Index;
 use bm_records::raw::{Conditional, Pipeline, Table};
 use list_types::NoMemory;
+use name_index::Index;
 use std::alloc::Global;
 
 /// A pipeline, with its nodes found by their names.

@@ -2,7 +2,7 @@
 use Rattle.std.proofs.Common.{◌≡◌, List, [], ◌∷◌, ◌++◌, Option, Some, None, ap, ◌∙◌, append_assoc, string_bytes, subst}
 use Rattle.serde_json.specs.View.{view, members_view}
 use Rattle.serde_json.proofs.Views.{Entry}
-use Rattle.json_shapes.specs.Shapes.{◌>>=◌}
+use Rattle.list_types.specs.Options.{◌>>=◌}
 use Rattle.bm_records.specs.declared.raw.NextTable.{NextTable}
 use Rattle.bm_records.specs.Pipelines.{next_table, each_next}
 

@@ -16,7 +16,8 @@ use Rattle.bm_records.specs.declared.raw.Checksum.{Checksum}
 use Rattle.bm_records.specs.declared.raw.LearnList.{LearnList}
 use Rattle.bm_values.specs.declared.kinds.ValueKind.{ValueKind}
 use Rattle.bm_values.specs.declared.kinds.ValueKind.TheVariants as kinds
-use Rattle.json_shapes.specs.Shapes.{◌>>=◌, natural_of, required, optional, list_of, unless_absent}
+use Rattle.list_types.specs.Options.{◌>>=◌}
+use Rattle.json_shapes.specs.Shapes.{natural_of, required, optional, list_of, unless_absent}
 use Rattle.bm_values.specs.Literals.{literal_of, width_of, field_width_of}
 use Rattle.json_shapes.specs.Arrays.{item_count, item_at}
 use Rattle.bm_values.specs.Values.{kind_of, field_name, field_value}

@@ -17,7 +17,8 @@ use Rattle.bm_values.specs.declared.kinds.ValueKind.{ValueKind}
 use Rattle.bm_values.specs.declared.kinds.ValueKind.TheVariants as kinds
 use Rattle.bm_records.specs.declared.operations.ParserOpKind.{ParserOpKind}
 use Rattle.bm_records.specs.declared.operations.ParserOpKind.TheVariants as ops
-use Rattle.json_shapes.specs.Shapes.{◌>>=◌, required, list_of, nullable, unless_absent, nothing_in}
+use Rattle.list_types.specs.Options.{◌>>=◌}
+use Rattle.json_shapes.specs.Shapes.{required, list_of, nullable, unless_absent, nothing_in}
 use Rattle.bm_values.specs.Literals.{literal_of, literal_text}
 use Rattle.bm_records.specs.Operations.{parser_op_kind}
 use Rattle.json_shapes.specs.Arrays.{item_count, item_at}

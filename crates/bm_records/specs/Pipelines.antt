@@ -18,7 +18,8 @@ use Rattle.bm_records.specs.declared.raw.Gress.{Gress}
 use Rattle.bm_records.specs.declared.raw.Gress.TheVariants as gresses
 use Rattle.bm_records.specs.declared.raw.Pipeline.{Pipeline}
 use Rattle.bm_records.specs.declared.raw.Pipelines.{Pipelines}
-use Rattle.json_shapes.specs.Shapes.{◌>>=◌, natural_of, required, nullable, optional, list_of, list_or_empty, unless_absent, nothing_in, filled}
+use Rattle.list_types.specs.Options.{◌>>=◌}
+use Rattle.json_shapes.specs.Shapes.{natural_of, required, nullable, optional, list_of, list_or_empty, unless_absent, nothing_in, filled}
 use Rattle.json_shapes.specs.Arrays.{item_count, item_at, of_count}
 use Rattle.bm_values.specs.Literals.{literal_of}
 use Rattle.bm_values.specs.Values.{field_name, field_value}

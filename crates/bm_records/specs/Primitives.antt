@@ -14,7 +14,8 @@ use Rattle.bm_values.specs.declared.kinds.ValueKind.{ValueKind}
 use Rattle.bm_values.specs.declared.kinds.ValueKind.TheVariants as kinds
 use Rattle.bm_records.specs.declared.operations.PrimitiveKind.{PrimitiveKind}
 use Rattle.bm_records.specs.declared.operations.PrimitiveKind.TheVariants as ops
-use Rattle.json_shapes.specs.Shapes.{◌>>=◌, natural_of, required, list_of}
+use Rattle.list_types.specs.Options.{◌>>=◌}
+use Rattle.json_shapes.specs.Shapes.{natural_of, required, list_of}
 use Rattle.bm_values.specs.Literals.{literal_of, width_of}
 use Rattle.bm_records.specs.Operations.{primitive_kind}
 use Rattle.json_shapes.specs.Arrays.{item_count, item_at, of_count}

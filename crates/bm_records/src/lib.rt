@@ -1,6 +1,7 @@
 //! The records of a program in BMv2's JSON form, each read of the JSON value that it stands in.
 #![tactic(auto)]
 
+mod labels;
 mod objects;
 mod operations;
 mod parsers;

@@ -12,7 +12,8 @@ use bm_values::kinds::ValueKind;
 use bm_values::raw::FieldWidth;
 use bm_values::values;
 use json_shapes::shapes::{self, FromJson};
-use json_shapes::{ShapeError, arrays};
+use json_shapes::{OtherShape, arrays};
+use list_types::Refusal;
 use serde_json::Value;
 use std::alloc::Global;
 
@@ -22,7 +23,7 @@ fn width_with(signed: bool, width: RawWidth) -> RawWidth
     if signed { Part::LeftOut } else { width }
 }
 
-fn sign_by(alloc: Global, count: usize, value: &Value) -> Result<bool, ShapeError>
+fn sign_by(alloc: Global, count: usize, value: &Value) -> Result<bool, Refusal<OtherShape>>
     ensures { Reads result (sign_by count (view value.now)) }
 {
     if count == 3 {
@@ -36,7 +37,7 @@ impl FromJson for TypeField {
     ghost shape = { type_field_of };
 
     #[tactic(auto, unfolding(crate::specs::Objects::type_field_of))]
-    fn from_json(alloc: Global, value: &Value) -> Result<TypeField, ShapeError> {
+    fn from_json(alloc: Global, value: &Value) -> Result<TypeField, Refusal<OtherShape>> {
         let count = arrays::item_count(value)?;
         let signed = sign_by(alloc, count, value)?;
         let name = arrays::item_at(alloc, value, 0)?;
@@ -52,7 +53,7 @@ impl FromJson for HeaderType {
     ghost shape = { header_type_of };
 
     #[tactic(auto, unfolding(crate::specs::Objects::header_type_of))]
-    fn from_json(alloc: Global, value: &Value) -> Result<HeaderType, ShapeError> {
+    fn from_json(alloc: Global, value: &Value) -> Result<HeaderType, Refusal<OtherShape>> {
         let name = shapes::required(alloc, value, "name")?;
         let fields = shapes::required(alloc, value, "fields")?;
         Ok(HeaderType { name, fields })
@@ -63,7 +64,7 @@ impl FromJson for Header {
     ghost shape = { header_of };
 
     #[tactic(auto, unfolding(crate::specs::Objects::header_of))]
-    fn from_json(alloc: Global, value: &Value) -> Result<Header, ShapeError> {
+    fn from_json(alloc: Global, value: &Value) -> Result<Header, Refusal<OtherShape>> {
         let name = shapes::required(alloc, value, "name")?;
         let header_type = shapes::required(alloc, value, "header_type")?;
         let metadata = shapes::required(alloc, value, "metadata")?;
@@ -79,7 +80,7 @@ impl FromJson for ErrorNumber {
     ghost shape = { error_of };
 
     #[tactic(auto, unfolding(crate::specs::Objects::error_of))]
-    fn from_json(alloc: Global, value: &Value) -> Result<ErrorNumber, ShapeError> {
+    fn from_json(alloc: Global, value: &Value) -> Result<ErrorNumber, Refusal<OtherShape>> {
         let count = arrays::item_count(value)?;
         arrays::of_count(2, count)?;
         let name = arrays::item_at(alloc, value, 0)?;
@@ -88,7 +89,11 @@ impl FromJson for ErrorNumber {
     }
 }
 
-fn size_by(alloc: Global, is_direct: bool, value: &Value) -> Result<Option<u64>, ShapeError>
+fn size_by(
+    alloc: Global,
+    is_direct: bool,
+    value: &Value,
+) -> Result<Option<u64>, Refusal<OtherShape>>
     ensures { Reads result (size_by is_direct (view value.now)) }
 {
     if is_direct {
@@ -102,7 +107,7 @@ impl FromJson for CounterArray {
     ghost shape = { counter_of };
 
     #[tactic(auto, unfolding(crate::specs::Objects::counter_of))]
-    fn from_json(alloc: Global, value: &Value) -> Result<CounterArray, ShapeError> {
+    fn from_json(alloc: Global, value: &Value) -> Result<CounterArray, Refusal<OtherShape>> {
         let name = shapes::required(alloc, value, "name")?;
         let is_direct = shapes::required(alloc, value, "is_direct")?;
         let size = size_by(alloc, is_direct, value)?;
@@ -115,7 +120,7 @@ impl FromJson for CounterArray {
 }
 
 #[tactic(auto, unfolding(crate::specs::Objects::input_literal))]
-fn input_literal(alloc: Global, input: &Value) -> Result<CalculationInput, ShapeError>
+fn input_literal(alloc: Global, input: &Value) -> Result<CalculationInput, Refusal<OtherShape>>
     ensures { Reads result (input_literal (view input.now)) }
 {
     let value = shapes::required(alloc, input, "value")?;
@@ -123,7 +128,11 @@ fn input_literal(alloc: Global, input: &Value) -> Result<CalculationInput, Shape
     Ok(CalculationInput::Literal { value, width })
 }
 
-fn input_by(alloc: Global, kind: ValueKind, value: &Value) -> Result<CalculationInput, ShapeError>
+fn input_by(
+    alloc: Global,
+    kind: ValueKind,
+    value: &Value,
+) -> Result<CalculationInput, Refusal<OtherShape>>
     ensures { Reads result (input_by kind (view value.now)) }
 {
     match kind {
@@ -133,7 +142,7 @@ fn input_by(alloc: Global, kind: ValueKind, value: &Value) -> Result<Calculation
         }
         ValueKind::Literal => input_literal(alloc, value),
         ValueKind::LeftOut => Ok(CalculationInput::LeftOut),
-        _ => Err(ShapeError::Shape),
+        _ => Err(Refusal::For(OtherShape)),
     }
 }
 
@@ -141,7 +150,7 @@ impl FromJson for CalculationInput {
     ghost shape = { input_of };
 
     #[tactic(auto, unfolding(crate::specs::Objects::input_of))]
-    fn from_json(alloc: Global, value: &Value) -> Result<CalculationInput, ShapeError> {
+    fn from_json(alloc: Global, value: &Value) -> Result<CalculationInput, Refusal<OtherShape>> {
         let kind = values::kind_of(value)?;
         input_by(alloc, kind, value)
     }
@@ -151,7 +160,7 @@ impl FromJson for Calculation {
     ghost shape = { calculation_of };
 
     #[tactic(auto, unfolding(crate::specs::Objects::calculation_of))]
-    fn from_json(alloc: Global, value: &Value) -> Result<Calculation, ShapeError> {
+    fn from_json(alloc: Global, value: &Value) -> Result<Calculation, Refusal<OtherShape>> {
         let name = shapes::required(alloc, value, "name")?;
         let algo = shapes::required(alloc, value, "algo")?;
         let input = shapes::required(alloc, value, "input")?;
@@ -163,7 +172,7 @@ impl FromJson for Checksum {
     ghost shape = { checksum_of };
 
     #[tactic(auto, unfolding(crate::specs::Objects::checksum_of))]
-    fn from_json(alloc: Global, value: &Value) -> Result<Checksum, ShapeError> {
+    fn from_json(alloc: Global, value: &Value) -> Result<Checksum, Refusal<OtherShape>> {
         let name = shapes::required(alloc, value, "name")?;
         let target = shapes::required(alloc, value, "target")?;
         let calculation = shapes::required(alloc, value, "calculation")?;
@@ -185,7 +194,7 @@ impl FromJson for LearnList {
     ghost shape = { learn_list_of };
 
     #[tactic(auto, unfolding(crate::specs::Objects::learn_list_of))]
-    fn from_json(alloc: Global, value: &Value) -> Result<LearnList, ShapeError> {
+    fn from_json(alloc: Global, value: &Value) -> Result<LearnList, Refusal<OtherShape>> {
         let name = shapes::required(alloc, value, "name")?;
         let id = shapes::required(alloc, value, "id")?;
         let elements = shapes::required(alloc, value, "elements")?;

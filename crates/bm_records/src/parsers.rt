@@ -10,12 +10,16 @@ use crate::raw::{Deparser, MatchValue, ParseState, Parser, ParserOp, Part, Trans
 use bm_values::kinds::ValueKind;
 use bm_values::{literals, values};
 use json_shapes::shapes::{self, FromJson};
-use json_shapes::{OtherShape, ShapeError, arrays};
-use list_types::Text;
+use json_shapes::{OtherShape, arrays};
+use list_types::{Refusal, Text};
 use serde_json::Value;
 use std::alloc::Global;
 
-fn extracted_by(alloc: Global, kind: ValueKind, value: &Value) -> Result<Part<Text>, ShapeError>
+fn extracted_by(
+    alloc: Global,
+    kind: ValueKind,
+    value: &Value,
+) -> Result<Part<Text>, Refusal<OtherShape>>
     ensures { Reads result (extracted_by kind (view value.now)) }
 {
     match kind {
@@ -24,23 +28,23 @@ fn extracted_by(alloc: Global, kind: ValueKind, value: &Value) -> Result<Part<Te
             Ok(Part::Served(header))
         }
         ValueKind::LeftOut => Ok(Part::LeftOut),
-        _ => Err(ShapeError::Shape),
+        _ => Err(Refusal::For(OtherShape)),
     }
 }
 
 #[tactic(auto, unfolding(crate::specs::Parsers::extracted, json_shapes::specs::Arrays::item_at))]
-fn extracted(alloc: Global, parameters: &Value) -> Result<Part<Text>, ShapeError>
+fn extracted(alloc: Global, parameters: &Value) -> Result<Part<Text>, Refusal<OtherShape>>
     ensures { Reads result (extracted (view parameters.now)) }
 {
     let Some(value) = parameters.get(0usize) else {
-        return Err(ShapeError::Shape);
+        return Err(Refusal::For(OtherShape));
     };
     let kind = values::kind_of(value)?;
     extracted_by(alloc, kind, value)
 }
 
 #[tactic(auto, unfolding(crate::specs::Parsers::set_of))]
-fn set(alloc: Global, parameters: &Value) -> Result<ParserOp, ShapeError>
+fn set(alloc: Global, parameters: &Value) -> Result<ParserOp, Refusal<OtherShape>>
     ensures { Reads result (set_of (view parameters.now)) }
 {
     let target = arrays::item_at(alloc, parameters, 0)?;
@@ -54,7 +58,7 @@ fn parser_op_by(
     op: Text,
     count: usize,
     parameters: &Value,
-) -> Result<ParserOp, ShapeError>
+) -> Result<ParserOp, Refusal<OtherShape>>
     ensures { Reads result (parser_op_by kind op count (view parameters.now)) }
 {
     match kind {
@@ -76,10 +80,10 @@ impl FromJson for ParserOp {
     ghost shape = { parser_op_of };
 
     #[tactic(auto, unfolding(crate::specs::Parsers::parser_op_of))]
-    fn from_json(alloc: Global, value: &Value) -> Result<ParserOp, ShapeError> {
+    fn from_json(alloc: Global, value: &Value) -> Result<ParserOp, Refusal<OtherShape>> {
         let op: Text = shapes::required(alloc, value, "op")?;
         let Some(parameters) = value.get("parameters") else {
-            return Err(ShapeError::Shape);
+            return Err(Refusal::For(OtherShape));
         };
         let count = arrays::item_count(parameters)?;
         let kind = operations::parser_op_kind(op.as_str());
@@ -132,7 +136,7 @@ fn match_by(kind: &Option<Text>, value: &Value) -> Result<MatchValue, OtherShape
 }
 
 #[tactic(auto, unfolding(crate::specs::Parsers::match_of))]
-fn match_of(alloc: Global, value: &Value) -> Result<MatchValue, ShapeError>
+fn match_of(alloc: Global, value: &Value) -> Result<MatchValue, Refusal<OtherShape>>
     ensures { Reads result (match_of (view value.now)) }
 {
     let kind = shapes::unless_absent(alloc, value, "type")?;
@@ -143,7 +147,7 @@ impl FromJson for Transition {
     ghost shape = { transition_of };
 
     #[tactic(auto, unfolding(crate::specs::Parsers::transition_of))]
-    fn from_json(alloc: Global, value: &Value) -> Result<Transition, ShapeError> {
+    fn from_json(alloc: Global, value: &Value) -> Result<Transition, Refusal<OtherShape>> {
         let matched = match_of(alloc, value)?;
         let mask = shapes::required(alloc, value, "mask")?;
         let next_state = shapes::required(alloc, value, "next_state")?;
@@ -159,7 +163,7 @@ impl FromJson for ParseState {
     ghost shape = { state_of };
 
     #[tactic(auto, unfolding(crate::specs::Parsers::state_of))]
-    fn from_json(alloc: Global, value: &Value) -> Result<ParseState, ShapeError> {
+    fn from_json(alloc: Global, value: &Value) -> Result<ParseState, Refusal<OtherShape>> {
         let name = shapes::required(alloc, value, "name")?;
         let parser_ops = shapes::required(alloc, value, "parser_ops")?;
         let transition_key = shapes::required(alloc, value, "transition_key")?;
@@ -177,7 +181,7 @@ impl FromJson for Parser {
     ghost shape = { parser_of };
 
     #[tactic(auto, unfolding(crate::specs::Parsers::parser_of))]
-    fn from_json(alloc: Global, value: &Value) -> Result<Parser, ShapeError> {
+    fn from_json(alloc: Global, value: &Value) -> Result<Parser, Refusal<OtherShape>> {
         let init_state = shapes::required(alloc, value, "init_state")?;
         let parse_states = shapes::required(alloc, value, "parse_states")?;
         Ok(Parser {
@@ -191,7 +195,7 @@ impl FromJson for Deparser {
     ghost shape = { deparser_of };
 
     #[tactic(auto, unfolding(crate::specs::Parsers::deparser_of))]
-    fn from_json(alloc: Global, value: &Value) -> Result<Deparser, ShapeError> {
+    fn from_json(alloc: Global, value: &Value) -> Result<Deparser, Refusal<OtherShape>> {
         let order = shapes::required(alloc, value, "order")?;
         shapes::nothing_in(value, "primitives")?;
         Ok(Deparser { order })

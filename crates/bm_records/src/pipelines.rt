@@ -9,8 +9,8 @@ use crate::raw::{
     Selector, Table, TableKind,
 };
 use json_shapes::shapes::{self, FromJson};
-use json_shapes::{OtherShape, ShapeError, arrays};
-use list_types::{List, Text};
+use json_shapes::{OtherShape, arrays};
+use list_types::{List, Refusal, Text};
 use p4_types::info::MatchKind;
 use serde_json::{Map, Value};
 use std::alloc::Global;
@@ -37,7 +37,7 @@ impl FromJson for KeyField {
     ghost shape = { key_field_of };
 
     #[tactic(auto, unfolding(crate::specs::Pipelines::key_field_of))]
-    fn from_json(alloc: Global, value: &Value) -> Result<KeyField, ShapeError> {
+    fn from_json(alloc: Global, value: &Value) -> Result<KeyField, Refusal<OtherShape>> {
         let text: Text = shapes::required(alloc, value, "match_type")?;
         let kind = match_kind(text.as_str())?;
         let target = shapes::required(alloc, value, "target")?;
@@ -60,7 +60,11 @@ fn table_kind(text: &str) -> Result<TableKind, OtherShape>
     }
 }
 
-fn profile_by(alloc: Global, kind: TableKind, value: &Value) -> Result<Option<Text>, ShapeError>
+fn profile_by(
+    alloc: Global,
+    kind: TableKind,
+    value: &Value,
+) -> Result<Option<Text>, Refusal<OtherShape>>
     ensures { Reads result (profile_by kind (view value.now)) }
 {
     match kind {
@@ -72,7 +76,7 @@ fn profile_by(alloc: Global, kind: TableKind, value: &Value) -> Result<Option<Te
     }
 }
 
-fn next_table(alloc: Global, outcome: &str, node: &Value) -> Result<NextTable, ShapeError>
+fn next_table(alloc: Global, outcome: &str, node: &Value) -> Result<NextTable, Refusal<OtherShape>>
     ensures { Reads result (next_table outcome.now (view node.now)) }
 {
     let outcome = Text::from_string(String::from_str(alloc, outcome)?);
@@ -80,7 +84,10 @@ fn next_table(alloc: Global, outcome: &str, node: &Value) -> Result<NextTable, S
     Ok(NextTable { outcome, node })
 }
 
-fn each_next(alloc: Global, members: &Map<String, Value>) -> Result<List<NextTable>, ShapeError>
+fn each_next(
+    alloc: Global,
+    members: &Map<String, Value>,
+) -> Result<List<NextTable>, Refusal<OtherShape>>
     ensures { Reads result (each_next (members_view members.now.entries)) }
 {
     let mut nexts = List::new(alloc);
@@ -92,7 +99,7 @@ fn each_next(alloc: Global, members: &Map<String, Value>) -> Result<List<NextTab
 }
 
 #[tactic(auto, unfolding(crate::specs::Pipelines::next_tables_of))]
-fn next_tables(alloc: Global, value: &Value) -> Result<List<NextTable>, ShapeError>
+fn next_tables(alloc: Global, value: &Value) -> Result<List<NextTable>, Refusal<OtherShape>>
     ensures { Reads result (next_tables_of (view value.now)) }
 {
     let Some(nexts) = value.get("next_tables") else {
@@ -103,7 +110,7 @@ fn next_tables(alloc: Global, value: &Value) -> Result<List<NextTable>, ShapeErr
     }
     match nexts.as_object() {
         Some(members) => each_next(alloc, members),
-        None => Err(ShapeError::Shape),
+        None => Err(Refusal::For(OtherShape)),
     }
 }
 
@@ -121,7 +128,7 @@ impl FromJson for DefaultEntry {
     ghost shape = { default_of };
 
     #[tactic(auto, unfolding(crate::specs::Pipelines::default_of))]
-    fn from_json(alloc: Global, value: &Value) -> Result<DefaultEntry, ShapeError> {
+    fn from_json(alloc: Global, value: &Value) -> Result<DefaultEntry, Refusal<OtherShape>> {
         let action_id = shapes::required(alloc, value, "action_id")?;
         let action_data = shapes::required(alloc, value, "action_data")?;
         Ok(DefaultEntry {
@@ -135,7 +142,7 @@ impl FromJson for Table {
     ghost shape = { table_of };
 
     #[tactic(auto, unfolding(crate::specs::Pipelines::table_of))]
-    fn from_json(alloc: Global, value: &Value) -> Result<Table, ShapeError> {
+    fn from_json(alloc: Global, value: &Value) -> Result<Table, Refusal<OtherShape>> {
         let name = shapes::required(alloc, value, "name")?;
         let key = shapes::required(alloc, value, "key")?;
         let text: Text = shapes::required(alloc, value, "type")?;
@@ -167,7 +174,7 @@ impl FromJson for Selector {
     ghost shape = { selector_of };
 
     #[tactic(auto, unfolding(crate::specs::Pipelines::selector_of))]
-    fn from_json(alloc: Global, value: &Value) -> Result<Selector, ShapeError> {
+    fn from_json(alloc: Global, value: &Value) -> Result<Selector, Refusal<OtherShape>> {
         let input = shapes::required(alloc, value, "input")?;
         Ok(Selector { input })
     }
@@ -177,7 +184,7 @@ impl FromJson for ActionProfile {
     ghost shape = { profile_of };
 
     #[tactic(auto, unfolding(crate::specs::Pipelines::profile_of))]
-    fn from_json(alloc: Global, value: &Value) -> Result<ActionProfile, ShapeError> {
+    fn from_json(alloc: Global, value: &Value) -> Result<ActionProfile, Refusal<OtherShape>> {
         let name = shapes::required(alloc, value, "name")?;
         let selector = shapes::optional(alloc, value, "selector")?;
         Ok(ActionProfile { name, selector })
@@ -188,7 +195,7 @@ impl FromJson for Conditional {
     ghost shape = { conditional_of };
 
     #[tactic(auto, unfolding(crate::specs::Pipelines::conditional_of))]
-    fn from_json(alloc: Global, value: &Value) -> Result<Conditional, ShapeError> {
+    fn from_json(alloc: Global, value: &Value) -> Result<Conditional, Refusal<OtherShape>> {
         let name = shapes::required(alloc, value, "name")?;
         let expression = shapes::required(alloc, value, "expression")?;
         let true_next = shapes::required(alloc, value, "true_next")?;
@@ -218,7 +225,7 @@ impl FromJson for Pipeline {
     ghost shape = { pipeline_of };
 
     #[tactic(auto, unfolding(crate::specs::Pipelines::pipeline_of))]
-    fn from_json(alloc: Global, value: &Value) -> Result<Pipeline, ShapeError> {
+    fn from_json(alloc: Global, value: &Value) -> Result<Pipeline, Refusal<OtherShape>> {
         let text: Text = shapes::required(alloc, value, "name")?;
         let gress = gress(text.as_str())?;
         let init_table = shapes::required(alloc, value, "init_table")?;
@@ -256,7 +263,7 @@ impl FromJson for Pipelines {
     ghost shape = { pipelines_of };
 
     #[tactic(auto, unfolding(crate::specs::Pipelines::pipelines_of))]
-    fn from_json(alloc: Global, value: &Value) -> Result<Pipelines, ShapeError> {
+    fn from_json(alloc: Global, value: &Value) -> Result<Pipelines, Refusal<OtherShape>> {
         let count = arrays::item_count(value)?;
         arrays::of_count(2, count)?;
         let first = arrays::item_at(alloc, value, 0)?;

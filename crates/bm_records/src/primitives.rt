@@ -10,12 +10,16 @@ use crate::raw::{Action, Datum, LearnListName, Part, Primitive};
 use bm_values::kinds::ValueKind;
 use bm_values::values;
 use json_shapes::shapes::{self, FromJson};
-use json_shapes::{ShapeError, arrays};
-use list_types::Text;
+use json_shapes::{OtherShape, arrays};
+use list_types::{Refusal, Text};
 use serde_json::Value;
 use std::alloc::Global;
 
-fn learn_list_by(alloc: Global, kind: ValueKind, value: &Value) -> Result<LearnListName, ShapeError>
+fn learn_list_by(
+    alloc: Global,
+    kind: ValueKind,
+    value: &Value,
+) -> Result<LearnListName, Refusal<OtherShape>>
     ensures { Reads result (learn_list_by kind (view value.now)) }
 {
     match kind {
@@ -28,7 +32,7 @@ fn learn_list_by(alloc: Global, kind: ValueKind, value: &Value) -> Result<LearnL
             Ok(LearnListName::Id(id))
         }
         ValueKind::LeftOut => Ok(LearnListName::LeftOut),
-        _ => Err(ShapeError::Shape),
+        _ => Err(Refusal::For(OtherShape)),
     }
 }
 
@@ -36,13 +40,17 @@ impl FromJson for LearnListName {
     ghost shape = { learn_list_name };
 
     #[tactic(auto, unfolding(crate::specs::Primitives::learn_list_name))]
-    fn from_json(alloc: Global, value: &Value) -> Result<LearnListName, ShapeError> {
+    fn from_json(alloc: Global, value: &Value) -> Result<LearnListName, Refusal<OtherShape>> {
         let kind = values::kind_of(value)?;
         learn_list_by(alloc, kind, value)
     }
 }
 
-fn counter_by(alloc: Global, kind: ValueKind, value: &Value) -> Result<Part<Text>, ShapeError>
+fn counter_by(
+    alloc: Global,
+    kind: ValueKind,
+    value: &Value,
+) -> Result<Part<Text>, Refusal<OtherShape>>
     ensures { Reads result (counter_by kind (view value.now)) }
 {
     match kind {
@@ -51,12 +59,12 @@ fn counter_by(alloc: Global, kind: ValueKind, value: &Value) -> Result<Part<Text
             Ok(Part::Served(name))
         }
         ValueKind::LeftOut => Ok(Part::LeftOut),
-        _ => Err(ShapeError::Shape),
+        _ => Err(Refusal::For(OtherShape)),
     }
 }
 
 #[tactic(auto, unfolding(crate::specs::Primitives::assign_of))]
-fn assign(alloc: Global, parameters: &Value) -> Result<Primitive, ShapeError>
+fn assign(alloc: Global, parameters: &Value) -> Result<Primitive, Refusal<OtherShape>>
     ensures { Reads result (assign_of (view parameters.now)) }
 {
     let target = arrays::item_at(alloc, parameters, 0)?;
@@ -65,7 +73,7 @@ fn assign(alloc: Global, parameters: &Value) -> Result<Primitive, ShapeError>
 }
 
 #[tactic(auto, unfolding(crate::specs::Primitives::assign_header_of))]
-fn assign_header(alloc: Global, parameters: &Value) -> Result<Primitive, ShapeError>
+fn assign_header(alloc: Global, parameters: &Value) -> Result<Primitive, Refusal<OtherShape>>
     ensures { Reads result (assign_header_of (view parameters.now)) }
 {
     let target = arrays::item_at(alloc, parameters, 0)?;
@@ -74,18 +82,18 @@ fn assign_header(alloc: Global, parameters: &Value) -> Result<Primitive, ShapeEr
 }
 
 #[tactic(auto, unfolding(crate::specs::Primitives::counter_name, json_shapes::specs::Arrays::item_at))]
-fn counter_at_first(alloc: Global, parameters: &Value) -> Result<Part<Text>, ShapeError>
+fn counter_at_first(alloc: Global, parameters: &Value) -> Result<Part<Text>, Refusal<OtherShape>>
     ensures { Reads result (item_at counter_name 0 (view parameters.now)) }
 {
     let Some(value) = parameters.get(0usize) else {
-        return Err(ShapeError::Shape);
+        return Err(Refusal::For(OtherShape));
     };
     let kind = values::kind_of(value)?;
     counter_by(alloc, kind, value)
 }
 
 #[tactic(auto, unfolding(crate::specs::Primitives::count_of))]
-fn count(alloc: Global, parameters: &Value) -> Result<Primitive, ShapeError>
+fn count(alloc: Global, parameters: &Value) -> Result<Primitive, Refusal<OtherShape>>
     ensures { Reads result (count_of (view parameters.now)) }
 {
     let counter = counter_at_first(alloc, parameters)?;
@@ -99,7 +107,7 @@ fn primitive_by(
     op: Text,
     count_of: usize,
     parameters: &Value,
-) -> Result<Primitive, ShapeError>
+) -> Result<Primitive, Refusal<OtherShape>>
     ensures { Reads result (primitive_by kind op count_of (view parameters.now)) }
 {
     match kind {
@@ -141,10 +149,10 @@ impl FromJson for Primitive {
     ghost shape = { primitive_of };
 
     #[tactic(auto, unfolding(crate::specs::Primitives::primitive_of))]
-    fn from_json(alloc: Global, value: &Value) -> Result<Primitive, ShapeError> {
+    fn from_json(alloc: Global, value: &Value) -> Result<Primitive, Refusal<OtherShape>> {
         let op: Text = shapes::required(alloc, value, "op")?;
         let Some(parameters) = value.get("parameters") else {
-            return Err(ShapeError::Shape);
+            return Err(Refusal::For(OtherShape));
         };
         let count = arrays::item_count(parameters)?;
         let kind = operations::primitive_kind(op.as_str());
@@ -156,7 +164,7 @@ impl FromJson for Datum {
     ghost shape = { datum_of };
 
     #[tactic(auto, unfolding(crate::specs::Primitives::datum_of))]
-    fn from_json(alloc: Global, value: &Value) -> Result<Datum, ShapeError> {
+    fn from_json(alloc: Global, value: &Value) -> Result<Datum, Refusal<OtherShape>> {
         let width = shapes::required(alloc, value, "bitwidth")?;
         Ok(Datum { width })
     }
@@ -166,7 +174,7 @@ impl FromJson for Action {
     ghost shape = { action_of };
 
     #[tactic(auto, unfolding(crate::specs::Primitives::action_of))]
-    fn from_json(alloc: Global, value: &Value) -> Result<Action, ShapeError> {
+    fn from_json(alloc: Global, value: &Value) -> Result<Action, Refusal<OtherShape>> {
         let name = shapes::required(alloc, value, "name")?;
         let id = shapes::required(alloc, value, "id")?;
         let runtime_data = shapes::required(alloc, value, "runtime_data")?;

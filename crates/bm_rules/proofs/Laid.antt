@@ -1,13 +1,10 @@
 -- What stands at the place of an object in a list beside that of the objects.
-use Rattle.std.proofs.Common.{◌≡◌, ℕ, Bool, List, map, Option, Some, None, sym, ap, ◌∙◌, subst, ◌++◌, option_map, append_assoc, Bor}
+use Rattle.std.proofs.Common.{◌≡◌, ℕ, Bool, List, map, Some, None, sym, ap, ◌∙◌, ◌++◌, option_map, append_assoc, Bor}
 use Rattle.std.specs.List.{find, position, slice_get}
-use Rattle.std.specs.Option.{MatchOption, option_or}
+use Rattle.std.specs.Option.{option_or}
 use Rattle.std.proofs.lemmas.Option.{slice_get-map}
 use Rattle.std.proofs.lemmas.List.Folds.{find-append}
-use Rattle.p4info_model.proofs.Positions.{find_place}
-
-at_place : {X : Type 0} (p : X → Bool) (xs : List X) (r : Option ℕ) → r ≡ position p xs → MatchOption r (find p xs ≡ None) (λ i. slice_get xs i ≡ find p xs)
-at_place p xs r e = subst (λ q. MatchOption q (find p xs ≡ None) (λ i. slice_get xs i ≡ find p xs)) (sym e) (find_place p xs)
+use Rattle.name_index.proofs.Firsts.{at_place}
 
 -- where the object is found, its image stands at its place
 pub laid_at : {X B : Type 0} (p : X → Bool) (f : X → B) (xs : List X) (layout : List (Bor B)) (i : ℕ) → map (λ x. x.now) layout ≡ map f xs → Some i ≡ position p xs

@@ -11,6 +11,7 @@ use Rattle.p4_types.specs.declared.info.Param.{Param}
 use Rattle.p4_types.specs.declared.info.Action as info_actions
 use Rattle.p4_types.specs.declared.info.ActionProfile as info_profiles
 use Rattle.p4info_model.specs.Lookups.{action_at, profile_at}
+use Rattle.bm_values.specs.Literals.{width_bits}
 use Rattle.bm_records.specs.declared.raw.Datum.{Datum}
 use Rattle.bm_records.specs.declared.raw.Action.{Action}
 use Rattle.bm_records.specs.declared.raw.KeyField.{KeyField}
@@ -21,7 +22,7 @@ use Rattle.bm_records.specs.declared.raw.ActionProfile.{ActionProfile}
 use Rattle.bm_records.specs.declared.raw.CounterArray.{CounterArray}
 use Rattle.bm_records.specs.declared.raw.RawProgram.{RawProgram}
 use Rattle.bm_rules.specs.Names.{named}
-use Rattle.bm_rules.specs.Fields.{read_width, bits_of, bits_of_names}
+use Rattle.bm_rules.specs.Fields.{read_width, bits_of_names}
 use Rattle.bm_rules.specs.References.{tables, profiles, action_by_id}
 
 -- two kinds of matches are the same
@@ -56,7 +57,7 @@ tables_agree raw info = list_all (λ table. key_agrees raw table.match_fields (t
 
 -- a datum has the width of a parameter
 abbrev pub datum_agrees : Datum → Param → Bool
-datum_agrees datum param = bits_of datum.width == param.bitwidth
+datum_agrees datum param = width_bits datum.width == param.bitwidth
 
 -- there are as many data as parameters, of the same widths, in order
 abbrev pub data_agree : List Datum → List Param → Bool

@@ -1,9 +1,10 @@
 -- What is read as a field, and the headers and fields that names stand for.
-use Rattle.std.specs.Prelude.{ℕ, Bool, true, not, ◌&&◌, if◌then◌else◌, List, [], map, Option, Some, None, is_some, option_and_then, option_map, ◌∷◌, nat_lt, false, ◌+◌, ◌-◌, ◌/◌, codes}
+use Rattle.std.specs.Prelude.{ℕ, Bool, true, not, ◌&&◌, if◌then◌else◌, List, [], map, Option, Some, None, is_some, option_and_then, option_map, nat_lt, sum_by, ◌+◌, ◌/◌, codes}
 use Rattle.std.specs.Str.{bytes_eq}
 use Rattle.bm_values.specs.declared.raw.Part.{Part}
 use Rattle.bm_values.specs.declared.raw.Part.TheVariants as parts
 use Rattle.bm_values.specs.declared.raw.FieldName.{FieldName}
+use Rattle.bm_values.specs.Literals.{width_bits}
 use Rattle.bm_records.specs.declared.raw.Header.{Header}
 use Rattle.bm_records.specs.declared.raw.HeaderType.{HeaderType}
 use Rattle.bm_records.specs.declared.raw.TypeField.{TypeField}
@@ -60,15 +61,10 @@ abbrev pub is_part : {A : Type 0} → (A → Bool) → Part A → Bool
 is_part test (parts.Served x) = test x
 is_part test parts.LeftOut = true
 
--- the bits of a width; one that is left out counts as 0
-abbrev pub bits_of : Part ℕ → ℕ
-bits_of (parts.Served bits) = bits
-bits_of parts.LeftOut = 0
-
 -- the bits of a field, 0 where there is none
 abbrev pub field_bits : Option TypeField → ℕ
 field_bits None = 0
-field_bits (Some field) = bits_of field.width
+field_bits (Some field) = width_bits field.width
 
 -- the bits of the field of these names
 abbrev pub bits_of_names : RawProgram → List ℕ → List ℕ → ℕ
@@ -83,7 +79,10 @@ abbrev pub part_width : RawProgram → Part FieldName → ℕ
 part_width raw (parts.Served field) = read_width raw field
 part_width raw parts.LeftOut = 0
 
+-- the bytes that a field of a key takes
+abbrev pub part_bytes : RawProgram → Part FieldName → ℕ
+part_bytes raw field = (part_width raw field + 7) / 8
+
 -- the fields of a key take more than so many bytes
 abbrev pub exceeds : ℕ → RawProgram → List (Part FieldName) → Bool
-exceeds room raw [] = false
-exceeds room raw (field ∷ fields) = if nat_lt room ((part_width raw field + 7) / 8) then true else exceeds (room - (part_width raw field + 7) / 8) raw fields
+exceeds most raw fields = nat_lt most (sum_by (part_bytes raw) fields)

@@ -1,16 +1,9 @@
 -- Names: the first object of a name, its place, and names that occur twice or name nothing.
-use Rattle.std.specs.Prelude.{ℕ, Bool, not, nat_lt, List, length, Option}
-use Rattle.std.specs.List.{find, position, list_any}
+use Rattle.std.specs.Prelude.{ℕ, Bool, not, nat_lt, List, length}
+use Rattle.std.specs.List.{list_any}
 use Rattle.std.specs.Set.{distinct_count, is_member}
 use Rattle.std.specs.Str.{bytes_eq}
-
--- the first object of a name, if there is one
-abbrev pub named : {A : Type 0} → (A → List ℕ) → List ℕ → List A → Option A
-named name_of name objects = find (λ x. bytes_eq (name_of x) name) objects
-
--- its place
-abbrev pub place_of : {A : Type 0} → (A → List ℕ) → List ℕ → List A → Option ℕ
-place_of name_of name objects = position (λ x. bytes_eq (name_of x) name) objects
+pub use Rattle.name_index.specs.Names.{named, place_of}
 
 -- one of these is none of those
 abbrev pub lack : {A : Type 0} → (A → A → Bool) → List A → List A → Bool

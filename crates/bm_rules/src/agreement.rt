@@ -1,7 +1,6 @@
 //! What a program must have for its P4Info: L10 to L15.
-ghost use Rattle.std.specs.Prelude.{◌≡◌, is_some, option_copied};
-ghost use Rattle.std.specs.List.{list_all, position, zip};
-ghost use Rattle.std.specs.Str.{bytes_eq};
+ghost use Rattle.std.specs.Prelude.{◌≡◌, is_some, option_copied, IfOk};
+ghost use Rattle.std.specs.List.{list_all, zip};
 ghost use Rattle.p4info_model.specs.Lookups.{action_at, profile_at};
 ghost use Rattle.bm_rules.specs.Names.{named};
 ghost use Rattle.bm_rules.specs.Agreement.{same_kind, field_agrees, datum_agrees, profile_has_own, keys_agree, key_agrees, table_named, tables_agree, data_agree, id_beside, action_agrees, id_agrees, reference_agrees, table_has_references, references_agree, selector_agrees, is_of_kind, is_name, has_profile, is_simple, profile_agrees, table_profile_agrees, profiles_agree, is_size, size_agrees, counters_agree, digests_agree, has_egress_spec};
@@ -9,10 +8,13 @@ ghost use Rattle.bm_rules.specs.Agreement.{same_kind, field_agrees, datum_agrees
 use crate::scope::Scope;
 use crate::{fields, names, references};
 use bm_records::raw::{self, Datum, KeyField, RawProgram, TableKind};
-use list_types::Text;
+use bm_values::literals::width_bits;
+use list_types::{NoMemory, Text};
+use name_index::Index;
 use p4_types::info::{
     Action, ActionProfile, ActionRef, Counter, Digest, Info, MatchField, MatchKind, Param, Table,
 };
+use std::alloc::Global;
 
 fn same_kind(kind: MatchKind, other: MatchKind) -> bool
     ensures { result ≡ same_kind kind other }
@@ -77,7 +79,7 @@ pub(crate) fn tables_agree(scope: &Scope, info: &Info) -> bool
 fn datum_agrees(datum: &Datum, param: &Param) -> bool
     ensures { result ≡ datum_agrees datum.now param.now }
 {
-    fields::bits_of(&datum.width) == param.bitwidth
+    width_bits(&datum.width) == param.bitwidth
 }
 
 fn widths_agree(runtime_data: &[Datum], params: &[Param]) -> bool
@@ -95,16 +97,10 @@ fn data_agree(runtime_data: &[Datum], params: &[Param]) -> bool
     runtime_data.len() == params.len() && widths_agree(runtime_data, params)
 }
 
-fn place_of_name(names: &[Text], wanted: &str) -> Option<usize>
-    ensures { result ≡ position (λ name. bytes_eq name wanted.now) names.now }
-{
-    names.iter().position(|name| name.as_str() == wanted)
-}
-
-fn id_beside(wanted: &str, ids: &[u64], names: &[Text]) -> Option<u64>
+fn id_beside(wanted: &str, ids: &[u64], names: &Index<Text>) -> Option<u64>
     ensures { result ≡ id_beside wanted.now ids.now names.now }
 {
-    match place_of_name(names, wanted) {
+    match names.place_at(wanted) {
         Some(place) => ids.get(place).copied(),
         None => None,
     }
@@ -131,45 +127,90 @@ fn action_at<'a>(info: &'a Info, id: u32) -> Option<&'a Action>
         .find(|action| action.preamble.id == id)
 }
 
-fn reference_agrees(raw: &RawProgram, info: &Info, table: &raw::Table, id: u32) -> bool
-    ensures { result ≡ reference_agrees raw.now table.now (action_at info.now id) }
+/// The actions of a table, found by their names.
+#[derive(Drop)]
+struct Actions<'a> {
+    table: &'a raw::Table,
+    names: Index<'a, Text>,
+    ghost of_table: { names ≡ table.now.actions },
+}
+
+impl<'a> Actions<'a> {
+    fn of(alloc: Global, table: &'a raw::Table) -> Result<Actions<'a>, NoMemory>
+        ensures { IfOk result (λ actions. actions.table.now ≡ table.now) }
+    {
+        Ok(Actions {
+            table,
+            names: Index::of(alloc, table.actions.as_slice())?,
+        })
+    }
+}
+
+fn id_of(actions: &Actions, name: &str) -> Option<u64>
+    ensures { result ≡ id_beside name.now actions.now.table.now.action_ids actions.now.table.now.actions }
+{
+    id_beside(name, actions.table.action_ids.as_slice(), &actions.names)
+}
+
+fn reference_agrees(raw: &RawProgram, info: &Info, actions: &Actions, id: u32) -> bool
+    ensures { result ≡ reference_agrees raw.now actions.now.table.now (action_at info.now id) }
 {
     match action_at(info, id) {
         None => false,
         Some(action) => {
-            let id = id_beside(
-                action.preamble.name.as_str(),
-                table.action_ids.as_slice(),
-                table.actions.as_slice(),
-            );
+            let id = id_of(actions, action.preamble.name.as_str());
             id_agrees(raw, action.params.as_slice(), id)
         }
     }
 }
 
-fn has_references(raw: &RawProgram, info: &Info, table: &raw::Table, refs: &[ActionRef]) -> bool
-    ensures { result ≡ list_all (λ reference. reference_agrees raw.now table.now (action_at info.now reference.id)) refs.now }
+fn all_agree(raw: &RawProgram, info: &Info, actions: &Actions, refs: &[ActionRef]) -> bool
+    ensures { result ≡ list_all (λ reference. reference_agrees raw.now actions.now.table.now (action_at info.now reference.id)) refs.now }
 {
-    refs.iter().all(|reference| reference_agrees(raw, info, table, reference.id))
+    refs.iter().all(|reference| reference_agrees(raw, info, actions, reference.id))
 }
 
-fn table_has_references(raw: &RawProgram, info: &Info, table: &Table) -> bool
-    ensures { result ≡ table_has_references raw.now info.now table.now (table_named raw.now table.now.preamble.name) }
+fn has_references(
+    alloc: Global,
+    raw: &RawProgram,
+    info: &Info,
+    table: &raw::Table,
+    refs: &[ActionRef],
+) -> Result<bool, NoMemory>
+    ensures { IfOk result (λ answer. answer ≡ list_all (λ reference. reference_agrees raw.now table.now (action_at info.now reference.id)) refs.now) }
+{
+    let actions = Actions::of(alloc, table)?;
+    Ok(all_agree(raw, info, &actions, refs))
+}
+
+fn table_has_references(
+    alloc: Global,
+    raw: &RawProgram,
+    info: &Info,
+    table: &Table,
+) -> Result<bool, NoMemory>
+    ensures { IfOk result (λ answer. answer ≡ table_has_references raw.now info.now table.now (table_named raw.now table.now.preamble.name)) }
 {
     match table_named(raw, table.preamble.name.as_str()) {
-        None => false,
-        Some(found) => has_references(raw, info, found, table.action_refs.as_slice()),
+        None => Ok(false),
+        Some(found) => has_references(alloc, raw, info, found, table.action_refs.as_slice()),
     }
 }
 
 /// Whether each action reference has an action of its name with its widths in its table: L11.
-pub(crate) fn references_agree(raw: &RawProgram, info: &Info) -> bool
-    ensures { result ≡ references_agree raw.now info.now }
+pub(crate) fn references_agree(
+    alloc: Global,
+    raw: &RawProgram,
+    info: &Info,
+) -> Result<bool, NoMemory>
+    ensures { IfOk result (λ answer. answer ≡ references_agree raw.now info.now) }
 {
-    let tables = info.tables.as_slice();
-    tables
-        .iter()
-        .all(|table| table_has_references(raw, info, table))
+    for table in info.tables.as_slice() {
+        if !table_has_references(alloc, raw, info, table)? {
+            return Ok(false);
+        }
+    }
+    Ok(true)
 }
 
 fn profile_has_own(raw: &RawProgram, profile: &ActionProfile) -> bool

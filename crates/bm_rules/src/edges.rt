@@ -1,5 +1,5 @@
 //! The graphs of the parser and of a pipeline's nodes: L6 and L7.
-ghost use Rattle.std.specs.Prelude.{◌≡◌, ◌++◌, map, IfOk, OnOk};
+ghost use Rattle.std.specs.Prelude.{◌≡◌, ◌++◌, ◌+◌, ◌<◌, ◌^◌, length, map, IfOk, OnOk};
 ghost use Rattle.std.specs.List.{flat_map};
 ghost use Rattle.bm_rules.specs.Graphs.{has_loop, as_places, next_state, state_edges, node_place, optional_node, table_edges, conditional_edges, node_edges};
 ghost use Rattle.bm_rules.specs.Flaw.{nodes_loop};
@@ -9,6 +9,7 @@ use bm_records::raw::{
     Conditional, NextTable, ParseState, Parser, Pipeline, Pipelines, Table, Transition,
 };
 use list_types::{List, NoMemory, Text};
+use name_index::Index;
 use std::alloc::Global;
 
 fn push_place(edges: &mut List<usize>, place: Option<usize>) -> Result<(), NoMemory>
@@ -63,76 +64,91 @@ pub(crate) fn states_loop(alloc: Global, parser: &Parser) -> Result<bool, NoMemo
     graphs::has_loop(alloc, edges.as_slice())
 }
 
-fn node_place(pipeline: &Pipeline, name: &str) -> Option<usize>
-    ensures { result ≡ node_place pipeline.now name.now }
+/// A pipeline, with its nodes found by their names.
+#[derive(Drop)]
+struct Nodes<'a> {
+    pipeline: &'a Pipeline,
+    tables: Index<'a, Table>,
+    conditionals: Index<'a, Conditional>,
+    ghost of_tables: { tables ≡ pipeline.now.tables },
+    ghost of_conditionals: { conditionals ≡ pipeline.now.conditionals },
+    ghost room: { length pipeline.now.tables + length pipeline.now.conditionals < 2 ^ 64 },
+}
+
+impl<'a> Nodes<'a> {
+    fn of(alloc: Global, pipeline: &'a Pipeline) -> Result<Nodes<'a>, NoMemory>
+        ensures { IfOk result (λ nodes. nodes.pipeline.now ≡ pipeline.now) }
+    {
+        Ok(Nodes {
+            pipeline,
+            tables: Index::of(alloc, pipeline.tables.as_slice())?,
+            conditionals: Index::of(alloc, pipeline.conditionals.as_slice())?,
+        })
+    }
+}
+
+fn node_place(nodes: &Nodes, name: &Text) -> Option<usize>
+    ensures { result ≡ node_place nodes.now.pipeline.now name.now }
 {
-    let tables = pipeline.tables.as_slice();
-    if let Some(place) = names::place_of(tables, name) {
+    if let Some(place) = nodes.tables.place(name) {
         return Some(place);
     }
-    match names::place_of(pipeline.conditionals.as_slice(), name) {
-        Some(place) => Some(tables.len() + place),
+    match nodes.conditionals.place(name) {
+        Some(place) => Some(nodes.pipeline.tables.len() + place),
         None => None,
     }
 }
 
-fn optional_node(pipeline: &Pipeline, name: &Option<Text>) -> Option<usize>
-    ensures { result ≡ optional_node pipeline.now name.now }
+fn optional_node(nodes: &Nodes, name: &Option<Text>) -> Option<usize>
+    ensures { result ≡ optional_node nodes.now.pipeline.now name.now }
 {
     match name {
         None => None,
-        Some(name) => node_place(pipeline, name.as_str()),
+        Some(name) => node_place(nodes, name),
     }
 }
 
-fn push_nexts(
-    edges: &mut List<usize>,
-    pipeline: &Pipeline,
-    nexts: &[NextTable],
-) -> Result<(), NoMemory>
-    ensures { OnOk result (edges.new ≡ edges.old ++ flat_map (λ next. as_places (optional_node pipeline.now next.node)) nexts.now) }
+fn push_nexts(edges: &mut List<usize>, nodes: &Nodes, nexts: &[NextTable]) -> Result<(), NoMemory>
+    ensures { OnOk result (edges.new ≡ edges.old ++ flat_map (λ next. as_places (optional_node nodes.now.pipeline.now next.node)) nexts.now) }
 {
     for next in nexts {
-        push_place(edges, optional_node(pipeline, &next.node))?;
+        push_place(edges, optional_node(nodes, &next.node))?;
     }
     Ok(())
 }
 
-fn table_edges(alloc: Global, pipeline: &Pipeline, table: &Table) -> Result<List<usize>, NoMemory>
-    ensures { IfOk result (λ edges. edges ≡ table_edges pipeline.now table.now) }
+fn table_edges(alloc: Global, nodes: &Nodes, table: &Table) -> Result<List<usize>, NoMemory>
+    ensures { IfOk result (λ edges. edges ≡ table_edges nodes.now.pipeline.now table.now) }
 {
     let mut edges = List::new(alloc);
-    push_nexts(&mut edges, pipeline, table.next_tables.as_slice())?;
-    push_place(
-        &mut edges,
-        optional_node(pipeline, &table.base_default_next),
-    )?;
+    push_nexts(&mut edges, nodes, table.next_tables.as_slice())?;
+    push_place(&mut edges, optional_node(nodes, &table.base_default_next))?;
     Ok(edges)
 }
 
 fn conditional_edges(
     alloc: Global,
-    pipeline: &Pipeline,
+    nodes: &Nodes,
     conditional: &Conditional,
 ) -> Result<List<usize>, NoMemory>
-    ensures { IfOk result (λ edges. edges ≡ conditional_edges pipeline.now conditional.now) }
+    ensures { IfOk result (λ edges. edges ≡ conditional_edges nodes.now.pipeline.now conditional.now) }
 {
     let mut edges = List::new(alloc);
-    push_place(&mut edges, optional_node(pipeline, &conditional.true_next))?;
-    push_place(&mut edges, optional_node(pipeline, &conditional.false_next))?;
+    push_place(&mut edges, optional_node(nodes, &conditional.true_next))?;
+    push_place(&mut edges, optional_node(nodes, &conditional.false_next))?;
     Ok(edges)
 }
 
 fn push_tables(
     alloc: Global,
     all: &mut List<List<usize>>,
-    pipeline: &Pipeline,
+    nodes: &Nodes,
     tables: &[Table],
 ) -> Result<(), NoMemory>
-    ensures { OnOk result (all.new ≡ all.old ++ map (table_edges pipeline.now) tables.now) }
+    ensures { OnOk result (all.new ≡ all.old ++ map (table_edges nodes.now.pipeline.now) tables.now) }
 {
     for table in tables {
-        let edges = table_edges(alloc, pipeline, table)?;
+        let edges = table_edges(alloc, nodes, table)?;
         all.push(edges)?;
     }
     Ok(())
@@ -141,25 +157,34 @@ fn push_tables(
 fn push_conditionals(
     alloc: Global,
     all: &mut List<List<usize>>,
-    pipeline: &Pipeline,
+    nodes: &Nodes,
     conditionals: &[Conditional],
 ) -> Result<(), NoMemory>
-    ensures { OnOk result (all.new ≡ all.old ++ map (conditional_edges pipeline.now) conditionals.now) }
+    ensures { OnOk result (all.new ≡ all.old ++ map (conditional_edges nodes.now.pipeline.now) conditionals.now) }
 {
     for conditional in conditionals {
-        let edges = conditional_edges(alloc, pipeline, conditional)?;
+        let edges = conditional_edges(alloc, nodes, conditional)?;
         all.push(edges)?;
     }
     Ok(())
 }
 
+// The edges of each node of a pipeline.
+fn edges_of(alloc: Global, nodes: &Nodes) -> Result<List<List<usize>>, NoMemory>
+    ensures { IfOk result (λ edges. edges ≡ node_edges nodes.now.pipeline.now) }
+{
+    let pipeline = nodes.pipeline;
+    let mut all = List::new(alloc);
+    push_tables(alloc, &mut all, nodes, pipeline.tables.as_slice())?;
+    push_conditionals(alloc, &mut all, nodes, pipeline.conditionals.as_slice())?;
+    Ok(all)
+}
+
 fn node_edges(alloc: Global, pipeline: &Pipeline) -> Result<List<List<usize>>, NoMemory>
     ensures { IfOk result (λ edges. edges ≡ node_edges pipeline.now) }
 {
-    let mut all = List::new(alloc);
-    push_tables(alloc, &mut all, pipeline, pipeline.tables.as_slice())?;
-    push_conditionals(alloc, &mut all, pipeline, pipeline.conditionals.as_slice())?;
-    Ok(all)
+    let nodes = Nodes::of(alloc, pipeline)?;
+    edges_of(alloc, &nodes)
 }
 
 #[tactic(auto, using(crate::proofs::Inside::nodes_inside))]

@@ -1,11 +1,12 @@
 //! Headers and fields by their names.
 ghost use Rattle.std.specs.Prelude.{◌≡◌, ◌+◌, ◌*◌, ◌/◌, ℕ, map, nat_lt, option_copied, option_map, sum_by};
 ghost use Rattle.bm_rules.specs.Names.{place_of};
-ghost use Rattle.bm_rules.specs.Fields.{header_named, has_header, fields_of, field_by_names, field_named, is_validity, is_readable, is_writable, is_part, bits_of, bits_of_names, read_width, part_width};
+ghost use Rattle.bm_rules.specs.Fields.{header_named, has_header, fields_of, field_by_names, field_named, is_validity, is_readable, is_writable, is_part, bits_of_names, read_width, part_width};
 
 use crate::names;
 use crate::scope::Scope;
-use bm_records::raw::{FieldName, Header, Part, RawField, RawWidth, TypeField};
+use bm_records::raw::{FieldName, Header, Part, RawField, TypeField};
+use bm_values::literals::width_bits;
 use list_types::Text;
 
 pub(crate) fn header_named<'a>(scope: &Scope<'a>, name: &str) -> Option<&'a Header>
@@ -101,23 +102,13 @@ pub(crate) fn is_target(scope: &Scope, name: &RawField) -> bool
     }
 }
 
-/// The bits of a width; one that is left out counts as 0.
-pub fn bits_of(width: &RawWidth) -> u32
-    ensures { result ≡ bits_of width.now }
-{
-    match width {
-        Part::Served(bits) => *bits,
-        Part::LeftOut => 0,
-    }
-}
-
 /// The bits of the field of these names, 0 where there is none.
 pub(crate) fn bits_of_names(scope: &Scope, header: &str, field: &str) -> u32
     ensures { result ≡ bits_of_names scope.now.raw.now header.now field.now }
 {
     match field_by_names(scope, header, field) {
         None => 0,
-        Some(field) => bits_of(&field.width),
+        Some(field) => width_bits(&field.width),
     }
 }
 

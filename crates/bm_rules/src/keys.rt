@@ -1,7 +1,7 @@
 //! The widths of the keys of transitions.
-ghost use Rattle.std.specs.Prelude.{◌≡◌, ◌+◌, ◌/◌, ℕ};
+ghost use Rattle.std.specs.Prelude.{◌≡◌};
 ghost use Rattle.std.specs.List.{list_any};
-ghost use Rattle.bm_rules.specs.Fields.{part_width, exceeds};
+ghost use Rattle.bm_rules.specs.Fields.{part_width, part_bytes, exceeds};
 ghost use Rattle.bm_rules.specs.Flaw.{keys_exceed};
 
 use crate::fields;
@@ -18,11 +18,12 @@ fn part_width(scope: &Scope, field: &RawField) -> u32
 }
 
 fn part_bytes(scope: &Scope, field: &RawField) -> u64
-    ensures { result ≡ (part_width scope.now.raw.now field.now + 7) / 8 }
+    ensures { result ≡ part_bytes scope.now.raw.now field.now }
 {
     (u64::from(part_width(scope, field)) + 7) / 8
 }
 
+#[tactic(auto, using(bm_records::proofs::Together::exceeds_most))]
 fn key_exceeds(scope: &Scope, fields: &[RawField]) -> bool
     ensures { result ≡ exceeds 16 scope.now.raw.now fields.now }
 {

@@ -30,29 +30,35 @@ fn layout_of<'a>(alloc: Global, raw: &'a RawProgram) -> Result<Vec<&'a [TypeFiel
 }
 
 // The first of L8 to L15.
-fn later_flaw(scope: &Scope, info: &Info) -> Option<u8>
-    ensures { result ≡ later_flaw scope.now.raw.now info.now }
+fn later_flaw(alloc: Global, scope: &Scope, info: &Info) -> Result<Option<u8>, NoMemory>
+    ensures { IfOk result (λ rule. rule ≡ later_flaw scope.now.raw.now info.now) }
 {
     let raw = scope.raw;
     if operations::operations_unknown(raw) {
-        Some(8)
-    } else if !operations::expressions_typed(raw) {
-        Some(9)
-    } else if !agreement::tables_agree(scope, info) {
-        Some(10)
-    } else if !agreement::references_agree(raw, info) {
-        Some(11)
-    } else if !agreement::profiles_agree(raw, info) {
-        Some(12)
-    } else if !agreement::counters_agree(raw, info) {
-        Some(13)
-    } else if !agreement::digests_agree(raw, info) {
-        Some(14)
-    } else if !agreement::has_egress_spec(scope) {
-        Some(15)
-    } else {
-        None
+        return Ok(Some(8));
     }
+    if !operations::expressions_typed(raw) {
+        return Ok(Some(9));
+    }
+    if !agreement::tables_agree(scope, info) {
+        return Ok(Some(10));
+    }
+    if !agreement::references_agree(alloc, raw, info)? {
+        return Ok(Some(11));
+    }
+    if !agreement::profiles_agree(raw, info) {
+        return Ok(Some(12));
+    }
+    if !agreement::counters_agree(raw, info) {
+        return Ok(Some(13));
+    }
+    if !agreement::digests_agree(raw, info) {
+        return Ok(Some(14));
+    }
+    if !agreement::has_egress_spec(scope) {
+        return Ok(Some(15));
+    }
+    Ok(None)
 }
 
 #[tactic(auto, unfolding(crate::specs::Flaw::flaw))]
@@ -75,7 +81,7 @@ fn flaw_in(alloc: Global, scope: &Scope, info: &Info) -> Result<Option<u8>, NoMe
     if edges::nodes_loop(alloc, &raw.pipelines)? {
         return Ok(Some(7));
     }
-    Ok(later_flaw(scope, info))
+    later_flaw(alloc, scope, info)
 }
 
 /// The first of the rules L4 to L15 that a program breaks under a P4Info, by its number; 1 where the key of a transition is

@@ -13,7 +13,8 @@ use Rattle.bm_values.specs.declared.kinds.ValueKind.{ValueKind}
 use Rattle.bm_values.specs.declared.kinds.ValueKind.TheVariants as kinds
 use Rattle.bm_values.specs.declared.kinds.Operation.{Operation}
 use Rattle.bm_values.specs.declared.kinds.Operation.TheVariants as operations
-use Rattle.json_shapes.specs.Shapes.{◌>>=◌, natural_of, required}
+use Rattle.list_types.specs.Options.{◌>>=◌}
+use Rattle.json_shapes.specs.Shapes.{natural_of, required}
 use Rattle.bm_values.specs.Trees.{Tree}
 use Rattle.bm_values.specs.Trees as trees
 use Rattle.bm_values.specs.Literals.{literal_of}

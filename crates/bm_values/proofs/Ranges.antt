@@ -6,7 +6,8 @@ use Rattle.serde_json.specs.Find.{as_str}
 use Rattle.bm_values.specs.declared.raw.Part.{Part}
 use Rattle.bm_values.specs.declared.raw.Part.TheVariants.{Served, LeftOut}
 use Rattle.bm_values.specs.declared.raw.FieldWidth.{FieldWidth}
-use Rattle.json_shapes.specs.Shapes.{◌>>=◌, natural_of}
+use Rattle.list_types.specs.Options.{◌>>=◌}
+use Rattle.json_shapes.specs.Shapes.{natural_of}
 use Rattle.json_shapes.proofs.Keeping.{Keeps, then_kept, then_kept_by, if_kept}
 use Rattle.bm_values.specs.Literals.{hex_digit, hex_number, are_hex_digits, hex_literal, literal_text, literal_of, width_in, width_of, width_by, field_width_of}
 use Rattle.bm_values.proofs.Hex.{one_more}

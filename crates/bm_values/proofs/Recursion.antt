@@ -5,7 +5,7 @@ use Rattle.std.specs.Cmp.Lexicographic.{slice_cmp}
 use mathlib.Core.Path.{fun_ext}
 use Rattle.serde_json.specs.Data.{Data, null, boolean, number, string, array, object, Members, no_members, member, depth, members_depth}
 use Rattle.serde_json.specs.Find.{get, get_member}
-use Rattle.json_shapes.specs.Shapes.{◌>>=◌}
+use Rattle.list_types.specs.Options.{◌>>=◌}
 use Rattle.json_shapes.specs.Shapes as shapes
 use Rattle.bm_values.specs.Trees.{Tree}
 use Rattle.bm_values.specs.Expressions.{tree_with, operation, tree_of, trees_of, inside}

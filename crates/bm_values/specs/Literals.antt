@@ -7,7 +7,8 @@ use Rattle.serde_json.specs.Find.{as_str}
 use Rattle.bm_values.specs.declared.raw.Part.{Part}
 use Rattle.bm_values.specs.declared.raw.Part.TheVariants.{Served, LeftOut}
 use Rattle.bm_values.specs.declared.raw.FieldWidth.{FieldWidth}
-use Rattle.json_shapes.specs.Shapes.{◌>>=◌, natural_of}
+use Rattle.list_types.specs.Options.{◌>>=◌}
+use Rattle.json_shapes.specs.Shapes.{natural_of}
 
 -- the value of a hex digit
 abbrev pub hex_digit : ℕ → Option ℕ
@@ -50,6 +51,11 @@ width_in bits = if bits == 0 then None else if nat_le bits 128 then Some (Served
 -- a width in bits
 abbrev pub width_of : Data → Option (Part ℕ)
 width_of d = natural_of d >>= width_in
+
+-- the bits of a width; one that is left out counts as 0
+abbrev pub width_bits : Part ℕ → ℕ
+width_bits (Served bits) = bits
+width_bits LeftOut = 0
 
 -- a width by its text, which must be `*` and is left out, or else by its number
 abbrev pub width_by : Option (List ℕ) → Option ℕ → Option (Part ℕ)

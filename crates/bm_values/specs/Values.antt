@@ -7,7 +7,8 @@ use Rattle.bm_values.specs.declared.raw.Part.TheVariants as parts
 use Rattle.bm_values.specs.declared.raw.FieldName.{FieldName}
 use Rattle.bm_values.specs.declared.kinds.ValueKind.{ValueKind}
 use Rattle.bm_values.specs.declared.kinds.ValueKind.TheVariants as kinds
-use Rattle.json_shapes.specs.Shapes.{◌>>=◌, required}
+use Rattle.list_types.specs.Options.{◌>>=◌}
+use Rattle.json_shapes.specs.Shapes.{required}
 use Rattle.json_shapes.specs.Arrays.{item_count, item_at}
 use Rattle.bm_values.specs.Kinds.{value_kind}
 

@@ -8,13 +8,13 @@ ghost use Rattle.bm_values.specs.Expressions.{inside, operand, unary_of, binary_
 use crate::kinds::{self, Operation, ValueKind};
 use crate::raw::{BinaryOperator, Expression, Node, UnaryOperator};
 use crate::values;
-use json_shapes::ShapeError;
+use json_shapes::OtherShape;
 use json_shapes::shapes::{self, FromJson};
-use list_types::Text;
+use list_types::{Refusal, Text};
 use serde_json::Value;
 use std::alloc::Global;
 
-fn not_served(alloc: Global, op: &str) -> Result<Expression, ShapeError>
+fn not_served(alloc: Global, op: &str) -> Result<Expression, Refusal<OtherShape>>
     ensures { Reads result (Some (not_served op.now)) }
 {
     if kinds::is_left_out_operator(op) {
@@ -29,7 +29,7 @@ fn not_served(alloc: Global, op: &str) -> Result<Expression, ShapeError>
 }
 
 #[tactic(auto, unfolding(crate::specs::Expressions::valid_of))]
-fn valid(alloc: Global, value: &Value) -> Result<Expression, ShapeError>
+fn valid(alloc: Global, value: &Value) -> Result<Expression, Refusal<OtherShape>>
     ensures { Reads result (valid_of (view value.now)) }
 {
     shapes::null(value, "left")?;
@@ -41,22 +41,22 @@ fn valid(alloc: Global, value: &Value) -> Result<Expression, ShapeError>
 
 #[cycle(trees)]
 #[tactic(auto, using(crate::proofs::Recursion::lower))]
-fn member(alloc: Global, value: &Value, name: &str) -> Result<Expression, ShapeError>
+fn member(alloc: Global, value: &Value, name: &str) -> Result<Expression, Refusal<OtherShape>>
     ensures { Reads result (inside (view value.now) name.now) }
 {
     match value.get(name) {
         Some(member) => tree(alloc, member),
-        None => Err(ShapeError::Shape),
+        None => Err(Refusal::For(OtherShape)),
     }
 }
 
 #[cycle(trees)]
 #[tactic(auto, unfolding(crate::specs::Expressions::operand, json_shapes::specs::Shapes::required), using(crate::proofs::Recursion::lower))]
-fn operand(alloc: Global, value: &Value, name: &str) -> Result<Expression, ShapeError>
+fn operand(alloc: Global, value: &Value, name: &str) -> Result<Expression, Refusal<OtherShape>>
     ensures { Reads result (operand (inside (view value.now)) name.now (view value.now)) }
 {
     let Some(inside) = value.get(name) else {
-        return Err(ShapeError::Shape);
+        return Err(Refusal::For(OtherShape));
     };
     values::kind_of(inside)?;
     tree(alloc, inside)
@@ -64,7 +64,11 @@ fn operand(alloc: Global, value: &Value, name: &str) -> Result<Expression, Shape
 
 #[cycle(trees)]
 #[tactic(auto, unfolding(crate::specs::Expressions::unary_of))]
-fn unary(alloc: Global, operator: UnaryOperator, value: &Value) -> Result<Expression, ShapeError>
+fn unary(
+    alloc: Global,
+    operator: UnaryOperator,
+    value: &Value,
+) -> Result<Expression, Refusal<OtherShape>>
     ensures { Reads result (unary_of (inside (view value.now)) operator (view value.now)) }
 {
     shapes::null(value, "left")?;
@@ -76,7 +80,11 @@ fn unary(alloc: Global, operator: UnaryOperator, value: &Value) -> Result<Expres
 
 #[cycle(trees)]
 #[tactic(auto, unfolding(crate::specs::Expressions::binary_of))]
-fn binary(alloc: Global, operator: BinaryOperator, value: &Value) -> Result<Expression, ShapeError>
+fn binary(
+    alloc: Global,
+    operator: BinaryOperator,
+    value: &Value,
+) -> Result<Expression, Refusal<OtherShape>>
     ensures { Reads result (binary_of (inside (view value.now)) operator (view value.now)) }
 {
     let left = Box::new(alloc, operand(alloc, value, "left")?)?;
@@ -88,7 +96,7 @@ fn binary(alloc: Global, operator: BinaryOperator, value: &Value) -> Result<Expr
 
 #[cycle(trees)]
 #[tactic(auto, unfolding(crate::specs::Expressions::choice_of))]
-fn choice(alloc: Global, value: &Value) -> Result<Expression, ShapeError>
+fn choice(alloc: Global, value: &Value) -> Result<Expression, Refusal<OtherShape>>
     ensures { Reads result (choice_of (inside (view value.now)) (view value.now)) }
 {
     let condition = Box::new(alloc, operand(alloc, value, "cond")?)?;
@@ -100,7 +108,7 @@ fn choice(alloc: Global, value: &Value) -> Result<Expression, ShapeError>
 }
 
 #[cycle(trees)]
-fn operation_with(alloc: Global, op: &str, value: &Value) -> Result<Expression, ShapeError>
+fn operation_with(alloc: Global, op: &str, value: &Value) -> Result<Expression, Refusal<OtherShape>>
     ensures { Reads result (operation_with (inside (view value.now)) (operation_of op.now) op.now (view value.now)) }
 {
     match kinds::operation_of(op) {
@@ -114,20 +122,24 @@ fn operation_with(alloc: Global, op: &str, value: &Value) -> Result<Expression, 
 
 #[cycle(trees)]
 #[tactic(auto, unfolding(crate::specs::Expressions::operation, json_shapes::specs::Shapes::required))]
-fn operation(alloc: Global, value: &Value) -> Result<Expression, ShapeError>
+fn operation(alloc: Global, value: &Value) -> Result<Expression, Refusal<OtherShape>>
     ensures { Reads result (operation (inside (view value.now)) (view value.now)) }
 {
     let Some(op) = value.get("op") else {
-        return Err(ShapeError::Shape);
+        return Err(Refusal::For(OtherShape));
     };
     match op.as_str() {
         Some(op) => operation_with(alloc, op, value),
-        None => Err(ShapeError::Shape),
+        None => Err(Refusal::For(OtherShape)),
     }
 }
 
 #[cycle(trees)]
-fn value_with(alloc: Global, kind: ValueKind, value: &Value) -> Result<Expression, ShapeError>
+fn value_with(
+    alloc: Global,
+    kind: ValueKind,
+    value: &Value,
+) -> Result<Expression, Refusal<OtherShape>>
     ensures { Reads result (value_with (inside (view value.now)) kind (view value.now)) }
 {
     let node = match kind {
@@ -137,14 +149,14 @@ fn value_with(alloc: Global, kind: ValueKind, value: &Value) -> Result<Expressio
         ValueKind::Datum => Node::Datum(shapes::required(alloc, value, "value")?),
         ValueKind::LeftOut => Node::LeftOut,
         ValueKind::Expression => return member(alloc, value, "value"),
-        _ => return Err(ShapeError::Shape),
+        _ => return Err(Refusal::For(OtherShape)),
     };
     Ok(Expression { node })
 }
 
 #[cycle(trees)]
 #[tactic(auto, unfolding(crate::specs::Expressions::tree_with), using(crate::proofs::Recursion::recursion))]
-fn tree(alloc: Global, value: &Value) -> Result<Expression, ShapeError>
+fn tree(alloc: Global, value: &Value) -> Result<Expression, Refusal<OtherShape>>
     ensures { Reads result (tree_of (view value.now)) }
 {
     if value.get("type").is_some() {
@@ -159,7 +171,7 @@ impl FromJson for Expression {
     ghost shape = { expression_of };
 
     #[tactic(auto, unfolding(crate::specs::Expressions::expression_of))]
-    fn from_json(alloc: Global, value: &Value) -> Result<Expression, ShapeError> {
+    fn from_json(alloc: Global, value: &Value) -> Result<Expression, Refusal<OtherShape>> {
         values::kind_of(value)?;
         tree(alloc, value)
     }

@@ -2,11 +2,12 @@
 ghost use Rattle.std.specs.Prelude.{◌≡◌, ◌<◌, ◌≤◌, length, IfSome};
 ghost use Rattle.serde_json.specs.View.{view};
 ghost use Rattle.json_shapes.specs.Shapes.{Reads};
-ghost use Rattle.bm_values.specs.Literals.{hex_digit, hex_number, are_hex_digits, hex_literal, literal_text, literal_of, width_in, width_of, field_width_of};
+ghost use Rattle.bm_values.specs.Literals.{hex_digit, hex_number, are_hex_digits, hex_literal, literal_text, literal_of, width_in, width_of, field_width_of, width_bits};
 
 use crate::raw::{FieldWidth, Part, RawLiteral, RawWidth};
-use json_shapes::ShapeError;
+use json_shapes::OtherShape;
 use json_shapes::shapes::FromJson;
+use list_types::Refusal;
 use serde_json::Value;
 use std::alloc::Global;
 
@@ -73,13 +74,13 @@ pub fn literal_text(text: &[u8]) -> Option<RawLiteral>
 impl FromJson for RawLiteral {
     ghost shape = { literal_of };
 
-    fn from_json(_alloc: Global, value: &Value) -> Result<RawLiteral, ShapeError> {
+    fn from_json(_alloc: Global, value: &Value) -> Result<RawLiteral, Refusal<OtherShape>> {
         let Some(text) = value.as_str() else {
-            return Err(ShapeError::Shape);
+            return Err(Refusal::For(OtherShape));
         };
         match literal_text(text.as_bytes()) {
             Some(literal) => Ok(literal),
-            None => Err(ShapeError::Shape),
+            None => Err(Refusal::For(OtherShape)),
         }
     }
 }
@@ -96,16 +97,26 @@ fn width_in(bits: u64) -> Option<RawWidth>
     }
 }
 
+/// The bits of a width; one that is left out counts as 0.
+pub fn width_bits(width: &RawWidth) -> u32
+    ensures { result ≡ width_bits width.now }
+{
+    match width {
+        Part::Served(bits) => *bits,
+        Part::LeftOut => 0,
+    }
+}
+
 impl FromJson for RawWidth {
     ghost shape = { width_of };
 
-    fn from_json(_alloc: Global, value: &Value) -> Result<RawWidth, ShapeError> {
+    fn from_json(_alloc: Global, value: &Value) -> Result<RawWidth, Refusal<OtherShape>> {
         let Some(bits) = value.as_u64() else {
-            return Err(ShapeError::Shape);
+            return Err(Refusal::For(OtherShape));
         };
         match width_in(bits) {
             Some(width) => Ok(width),
-            None => Err(ShapeError::Shape),
+            None => Err(Refusal::For(OtherShape)),
         }
     }
 }
@@ -113,14 +124,14 @@ impl FromJson for RawWidth {
 impl FromJson for FieldWidth {
     ghost shape = { field_width_of };
 
-    fn from_json(alloc: Global, value: &Value) -> Result<FieldWidth, ShapeError> {
+    fn from_json(alloc: Global, value: &Value) -> Result<FieldWidth, Refusal<OtherShape>> {
         if let Some(text) = value.as_str() {
             return if text == "*" {
                 Ok(FieldWidth {
                     width: Part::LeftOut,
                 })
             } else {
-                Err(ShapeError::Shape)
+                Err(Refusal::For(OtherShape))
             };
         }
         let width = RawWidth::from_json(alloc, value)?;

@@ -7,8 +7,8 @@ ghost use Rattle.bm_values.specs.Values.{field_name, kind_of, field_by, field_va
 use crate::kinds::{self, ValueKind};
 use crate::raw::{FieldName, Part, RawField};
 use json_shapes::shapes::{self, FromJson};
-use json_shapes::{OtherShape, ShapeError, arrays};
-use list_types::Text;
+use json_shapes::{OtherShape, arrays};
+use list_types::{Refusal, Text};
 use serde_json::Value;
 use std::alloc::Global;
 
@@ -16,9 +16,9 @@ impl FromJson for FieldName {
     ghost shape = { field_name };
 
     #[tactic(auto, unfolding(crate::specs::Values::field_name))]
-    fn from_json(alloc: Global, value: &Value) -> Result<FieldName, ShapeError> {
+    fn from_json(alloc: Global, value: &Value) -> Result<FieldName, Refusal<OtherShape>> {
         if arrays::item_count(value)? != 2 {
-            return Err(ShapeError::Shape);
+            return Err(Refusal::For(OtherShape));
         }
         let header = arrays::item_at(alloc, value, 0)?;
         let field = arrays::item_at(alloc, value, 1)?;
@@ -40,7 +40,7 @@ pub fn kind_of(value: &Value) -> Result<ValueKind, OtherShape>
     }
 }
 
-fn field_by(alloc: Global, kind: ValueKind, value: &Value) -> Result<RawField, ShapeError>
+fn field_by(alloc: Global, kind: ValueKind, value: &Value) -> Result<RawField, Refusal<OtherShape>>
     ensures { Reads result (field_by kind (view value.now)) }
 {
     match kind {
@@ -49,7 +49,7 @@ fn field_by(alloc: Global, kind: ValueKind, value: &Value) -> Result<RawField, S
             Ok(Part::Served(field))
         }
         ValueKind::LeftOut => Ok(Part::LeftOut),
-        _ => Err(ShapeError::Shape),
+        _ => Err(Refusal::For(OtherShape)),
     }
 }
 
@@ -58,13 +58,17 @@ impl FromJson for RawField {
     ghost shape = { field_value };
 
     #[tactic(auto, unfolding(crate::specs::Values::field_value))]
-    fn from_json(alloc: Global, value: &Value) -> Result<RawField, ShapeError> {
+    fn from_json(alloc: Global, value: &Value) -> Result<RawField, Refusal<OtherShape>> {
         let kind = kind_of(value)?;
         field_by(alloc, kind, value)
     }
 }
 
-fn header_by(alloc: Global, kind: ValueKind, value: &Value) -> Result<Part<Text>, ShapeError>
+fn header_by(
+    alloc: Global,
+    kind: ValueKind,
+    value: &Value,
+) -> Result<Part<Text>, Refusal<OtherShape>>
     ensures { Reads result (header_by kind (view value.now)) }
 {
     match kind {
@@ -73,7 +77,7 @@ fn header_by(alloc: Global, kind: ValueKind, value: &Value) -> Result<Part<Text>
             Ok(Part::Served(name))
         }
         ValueKind::LeftOut => Ok(Part::LeftOut),
-        _ => Err(ShapeError::Shape),
+        _ => Err(Refusal::For(OtherShape)),
     }
 }
 
@@ -82,7 +86,7 @@ impl FromJson for Part<Text> {
     ghost shape = { header_value };
 
     #[tactic(auto, unfolding(crate::specs::Values::header_value))]
-    fn from_json(alloc: Global, value: &Value) -> Result<Part<Text>, ShapeError> {
+    fn from_json(alloc: Global, value: &Value) -> Result<Part<Text>, Refusal<OtherShape>> {
         let kind = kind_of(value)?;
         header_by(alloc, kind, value)
     }

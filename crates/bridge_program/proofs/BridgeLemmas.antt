@@ -4,8 +4,8 @@ use Rattle.p4_types.specs.declared.info.Info.{Info}
 use Rattle.p4_types.specs.declared.p4info.P4Info.{P4Info}
 use Rattle.p4info_model.specs.Answers.{Accepts}
 use Rattle.p4info_model.specs.declared.flaw.InfoFault.{InfoFault}
-use Rattle.p4info_model.specs.declared.valid.InfoError.{InfoError}
-use Rattle.p4info_model.specs.declared.valid.InfoError.TheVariants.{Fault}
+use Rattle.list_types.specs.declared.memory.Refusal.{Refusal}
+use Rattle.list_types.specs.declared.memory.Refusal.TheVariants.{For}
 use Rattle.p4info_model.specs.Flaw.{flaw}
 use Rattle.p4info_model.specs.Objects.{ids_clash, names_clash}
 use Rattle.p4info_model.specs.Resolved.{info_of}
@@ -29,6 +29,6 @@ not_refused message rule is refused = clash (sym refused ∙ ap flaw is ∙ no_f
 pub is_bridge : (message : P4Info) (info : Info) → message ≡ bridge_message → info ≡ info_of message → info ≡ bridge_info
 is_bridge message info is made = made ∙ ap info_of is ∙ same_objects
 
-pub no_fault : (message : P4Info) (error : InfoError) (fault : InfoFault) → message ≡ bridge_message → error ≡ Fault fault → Accepts message (Err error) → ⊥
+pub no_fault : (message : P4Info) (error : Refusal InfoFault) (fault : InfoFault) → message ≡ bridge_message → error ≡ For fault → Accepts message (Err error) → ⊥
 no_fault message error fault is error_is accepts =
-    let P : InfoError → Type 0 = λ e. Accepts message (Err e) in not_refused message fault.rule is (subst P error_is accepts)
+    let P : Refusal InfoFault → Type 0 = λ e. Accepts message (Err e) in not_refused message fault.rule is (subst P error_is accepts)

@@ -3,13 +3,13 @@ use Rattle.std.proofs.Common.{◌≡◌, ℕ, List, [], refl, ap, ◌∙◌}
 use Rattle.bm_pipeline.specs.declared.program.Program.{Program}
 use Rattle.p4_types.specs.declared.info.Info.{Info}
 use Rattle.p4v1_wire.specs.InfoRows.{preamble_rows, match_field_rows, action_ref_rows, table_rows, param_rows, action_rows, info_rows}
-use Rattle.wire_fields.specs.Spelling.{varint_from}
+use Rattle.canon_bytes.specs.Base128.{base_128}
 use Rattle.wire_messages.specs.Written.{written, row_bytes}
 use Rattle.plane_spec.specs.Bridge.{bridge_info, bridge_bytes, bridge_program, bridge_config}
 use Rattle.bridge_program.specs.Spelled.{BridgeIsSpelled, canonical_info}
 
 pub is_spelled : BridgeIsSpelled
-unfolding preamble_rows match_field_rows action_ref_rows table_rows param_rows action_rows info_rows varint_from written row_bytes bridge_info bridge_bytes
+unfolding preamble_rows match_field_rows action_ref_rows table_rows param_rows action_rows info_rows base_128 written row_bytes bridge_info bridge_bytes
 is_spelled = refl
 
 -- a configuration of the bridge's parts is the bridge's

@@ -3,10 +3,10 @@ ghost use Rattle.std.specs.Prelude.{◌≡◌, ◌∷◌, [], IfOk, Some};
 ghost use Rattle.plane_spec.specs.Bridge.{named, bridge_info};
 ghost use Rattle.bridge_program.specs.BridgeInfo.{forward_message, drop_message, table_message, bridge_message};
 
-use list_types::{List, NoMemory, Text};
+use list_types::{List, NoMemory, Refusal, Text};
 use p4_types::p4info;
 use p4_types::p4info::{Action, ActionRef, MatchField, Param, Preamble, Table};
-use p4info_model::{InfoError, P4Info};
+use p4info_model::P4Info;
 use std::alloc::Global;
 
 pub(crate) const TABLE: u32 = 0x0200_0001;
@@ -149,7 +149,7 @@ pub(crate) fn info(alloc: Global) -> Result<P4Info, NoMemory>
 {
     match P4Info::of(alloc, message(alloc)?) {
         Ok(info) => Ok(info),
-        Err(InfoError::NoMemory) => Err(NoMemory),
-        Err(InfoError::Fault(_)) => unreachable!(),
+        Err(Refusal::NoMemory) => Err(NoMemory),
+        Err(Refusal::For(_)) => unreachable!(),
     }
 }

@@ -11,7 +11,7 @@ use bm_pipeline::Pipeline;
 use list_types::{ByteList, List, NoMemory, Refusal};
 use p4_types::code::ConfigRule;
 use p4_types::messages::{Cookie, ForwardingPipelineConfig};
-use p4info_model::{InfoError, P4Info, read_info};
+use p4info_model::{P4Info, read_info};
 use p4v1_read::read_config;
 use plane_state::Config;
 use std::alloc::Global;
@@ -81,8 +81,8 @@ fn meant_under(
 {
     match read_info(alloc, p4info) {
         Ok(info) => config_with(alloc, config, p4info, info),
-        Err(InfoError::NoMemory) => Err(Refusal::NoMemory),
-        Err(InfoError::Fault(fault)) => Err(Refusal::For(ConfigRule::Info(fault.rule))),
+        Err(Refusal::NoMemory) => Err(Refusal::NoMemory),
+        Err(Refusal::For(fault)) => Err(Refusal::For(ConfigRule::Info(fault.rule))),
     }
 }
 

@@ -75,7 +75,7 @@ impl Bank {
         shared.fetch_add::<Adds>(&mut seat.inner, at + 1, u64::from(bytes));
     }
 
-    /// The packets and the bytes of a slot, each modulo 2^64 and as it is when it is read: first the packets, then the bytes.
+    /// The packets and the bytes of a slot, each modulo 2^64 and as it is when it is read.
     pub fn load(&self, seat: &mut Seat, slot: u32) -> (u64, u64)
         requires bank { seat.old.bank ≡ self.now.id }
         requires slot { slot < self.now.slots }

@@ -11,21 +11,21 @@ use Rattle.role_arbiter.proofs.Settling.{takes_effect}
 use Rattle.role_arbiter.specs.State.{RolesState}
 use Rattle.role_arbiter.specs.Telling.{told_at_arbitration}
 use Rattle.switch_spec.specs.Answer.{arbitration_unless, arbitration_answer}
-use Rattle.plane_spec.specs.Planes.{Control, session_by, with_roles}
+use Rattle.plane_spec.specs.Planes.{ControlState, session_by, with_roles}
 use Rattle.switch_spec.specs.Notices.{standing_notices}
 
-pub not_refused : (c : Control) (lane k : ℕ) (update : MasterArbitrationUpdate) → (update.device_id == c.device) ≡ true → cause c.roles lane update ≡ None
+pub not_refused : (c : ControlState) (lane k : ℕ) (update : MasterArbitrationUpdate) → (update.device_id == c.device) ≡ true → cause c.roles lane update ≡ None
     → arbitration_answer c lane k update ≡ arbitration_unless None c lane k update
 not_refused c lane k update device accepted = rw (device, accepted) refl
 
 -- the state with the session that was asked for is that behind its event
-pub entered : (c : Control) (update : MasterArbitrationUpdate) (by : Origin) (session : Session) (config : Option (List ℕ)) → session ≡ asked by.caller update → asked by.caller update ≡ session_by by config → cause c.roles by.caller update ≡ None
+pub entered : (c : ControlState) (update : MasterArbitrationUpdate) (by : Origin) (session : Session) (config : Option (List ℕ)) → session ≡ asked by.caller update → asked by.caller update ≡ session_by by config → cause c.roles by.caller update ≡ None
     → with_roles c (arbitrated c.roles session) ≡ with_roles c (settled c.roles (session_by by config))
 entered c update by session config is asks accepted =
     ap (λ (s : Session). with_roles c (arbitrated c.roles s)) is ∙ ap (with_roles c) (sym (takes_effect c.roles by.caller update accepted)) ∙ ap (λ (s : Session). with_roles c (settled c.roles s)) asks
 
 -- what is told and handed on, where the session is the one that was asked for
-pub told : (c : Control) (update : MasterArbitrationUpdate) (lane : ℕ) (session : Session) (roles : RolesState) (lanes : List ℕ) (notices : List Notice) → session ≡ asked lane update
+pub told : (c : ControlState) (update : MasterArbitrationUpdate) (lane : ℕ) (session : Session) (roles : RolesState) (lanes : List ℕ) (notices : List Notice) → session ≡ asked lane update
     → roles ≡ arbitrated c.roles session → lanes ≡ told_at_arbitration c.roles session → notices ≡ standing_notices c.device roles session.role lanes
     → let new = asked lane update in notices ≡ standing_notices c.device (arbitrated c.roles new) new.role (told_at_arbitration c.roles new)
 told c update lane session roles lanes notices is roles_are lanes_are told_is = told_is

@@ -4,13 +4,13 @@ use Rattle.p4_types.specs.declared.calls.Reply.{Reply}
 use Rattle.p4_types.specs.declared.code.Code.TheVariants as codes
 use Rattle.plane_image.specs.Image.{ImageVersions}
 use Rattle.plane_spec.specs.Config.{Event}
-use Rattle.plane_spec.specs.Planes.{Control, applied}
+use Rattle.plane_spec.specs.Planes.{ControlState, applied}
 use Rattle.switch_spec.specs.Answer.{Answer}
 use Rattle.switch_spec.specs.History.{is_unavailable}
 
 -- the control state, with how many steps and calls there were
 pub record Core : Type 0 where
-  pub control : Control
+  pub control : ControlState
   -- how many steps there were
   pub steps : ℕ
   -- how many calls each caller has made
@@ -34,22 +34,22 @@ abbrev pub without_memory : ℕ → Reply
 without_memory n = record { code = codes.Unavailable; messages = []; notices = []; steps = n; packet = None }
 
 -- the call is answered, and its events took effect and were handed on
-pub record IsAnswered (old : Control) (steps : ℕ) (given : List Event) (a : Answer) (reply : Reply) (new : Control) (now : List Event) : Type 0 where
+pub record IsAnswered (old : ControlState) (steps : ℕ) (given : List Event) (a : Answer) (reply : Reply) (new : ControlState) (now : List Event) : Type 0 where
   pub reply_is : reply ≡ replied steps a
   pub control : new ≡ applied old a.events
   pub handed : now ≡ given ++ a.events
 
 -- there was no memory for the call: the state is as it was
-pub record IsRefused (old : Control) (steps : ℕ) (given : List Event) (reply : Reply) (new : Control) (now : List Event) : Type 0 where
+pub record IsRefused (old : ControlState) (steps : ℕ) (given : List Event) (reply : Reply) (new : ControlState) (now : List Event) : Type 0 where
   pub reply_is : reply ≡ without_memory steps
   pub control : new ≡ old
   pub handed : now ≡ given
 
 -- by whether there was no memory
-abbrev pub HandledBy : Bool → Control → ℕ → List Event → Answer → Reply → Control → List Event → Type 0
+abbrev pub HandledBy : Bool → ControlState → ℕ → List Event → Answer → Reply → ControlState → List Event → Type 0
 HandledBy true old steps given a reply new now = IsRefused old steps given reply new now
 HandledBy false old steps given a reply new now = IsAnswered old steps given a reply new now
 
 -- what a call makes of the state and of the events that were handed on, beside its reply
-abbrev pub Handled : Control → ℕ → List Event → Answer → Reply → Control → List Event → Type 0
+abbrev pub Handled : ControlState → ℕ → List Event → Answer → Reply → ControlState → List Event → Type 0
 Handled old steps given a reply new now = HandledBy (is_unavailable reply.code) old steps given a reply new now

@@ -2,7 +2,7 @@
 use Rattle.std.specs.Prelude.{◌≡◌, List, [], ◌∷◌, Result, Ok, Err}
 use Rattle.plane_image.specs.Image.{ImageVersions}
 use Rattle.plane_spec.specs.Config.{Event}
-use Rattle.plane_spec.specs.Planes.{Control, applied}
+use Rattle.plane_spec.specs.Planes.{ControlState, applied}
 use Rattle.switch_spec.specs.Answer.{Answer}
 use Rattle.ctl_core.specs.declared.prepared.Prepared.{Prepared}
 
@@ -25,7 +25,7 @@ pub record Leads (old new : ImageVersions) (list : List Event) : Type 0 where
   pub steps : new.steps ≡ old.steps
 
 -- what is changed are these events, or there are none
-abbrev pub Made : Control → Control → List Event → Type 0
+abbrev pub Made : ControlState → ControlState → List Event → Type 0
 Made before now [] = Unit {0}
 Made before now (event ∷ list) = now ≡ applied before (event ∷ list)
 

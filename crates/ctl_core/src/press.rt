@@ -6,7 +6,7 @@ ghost use Rattle.plane_spec.specs.Legal.{Legal};
 ghost use Rattle.plane_spec.specs.Planes as planes;
 ghost use Rattle.plane_spec.specs.Planes.{applied};
 
-use list_types::{List, NoMemory};
+use list_types::List;
 use p4_types::events::Event;
 use plane_state::Config;
 
@@ -14,13 +14,13 @@ use plane_state::Config;
 pub trait Press {
     ghost given: { Self → spec.List config.Event };
 
-    ghost opening: { Self → planes.Control };
+    ghost opening: { Self → planes.ControlState };
 
-    /// Adds all of the events, or gives them back where there is no memory.
-    fn push(&mut self, events: List<Event<Config>>) -> Result<(), (List<Event<Config>>, NoMemory)>
+    /// Adds all of the events, or gives them back where there is no memory or no room for them.
+    fn push(&mut self, events: List<Event<Config>>) -> Result<(), List<Event<Config>>>
         requires { Legal (applied (opening self.old) (given self.old)) events }
         ensures opening { opening self.new ≡ opening self.old }
         ensures added { OnOk result (given self.new ≡ given self.old ++ events) }
         ensures kept { OnErr result (given self.new ≡ given self.old) }
-        ensures given_back { IfErr result (λ refused. refused.0 ≡ events) };
+        ensures given_back { IfErr result (λ given_back. given_back ≡ events) };
 }

@@ -15,7 +15,7 @@ use Rattle.p4_types.specs.declared.journal.Entry.{Entry}
 use Rattle.p4_types.specs.declared.events.Start.{Start}
 use Rattle.plane_spec.proofs.Lists.{All-filter}
 use Rattle.plane_spec.specs.Config.{Event}
-use Rattle.plane_spec.specs.Planes.{Control, opened, applied}
+use Rattle.plane_spec.specs.Planes.{ControlState, opened, applied}
 use Rattle.switch_spec.proofs.Through.{AreBy, numbered_by}
 use Rattle.switch_spec.specs.Carrying.{made_on, steps_through}
 use Rattle.switch_spec.specs.History.{Made, History, answered, expected, is_refused_for_memory, own_events, refused_for_memory, steps_of}
@@ -49,7 +49,7 @@ through_prefix lane call n front whole begins le h =
 -- ---- Calls of a journal are after no more steps than it has
 
 -- an entry as it has to be tells the steps through it
-steps_told_by : (b : Bool) (c : Control) (n : ℕ) (made : Made) → is_refused_for_memory made ≡ b → made.entry ≡ expected c n made → made.entry.reply.steps ≡ n + length made.entry.steps
+steps_told_by : (b : Bool) (c : ControlState) (n : ℕ) (made : Made) → is_refused_for_memory made ≡ b → made.entry ≡ expected c n made → made.entry.reply.steps ≡ n + length made.entry.steps
 steps_told_by true c n made is h =
     let e : made.entry ≡ refused_for_memory n made.entry.lane made.entry.call =
     h ∙ ap (λ (b : Bool). cond b (refused_for_memory n made.entry.lane made.entry.call) (answered c made.figures n made.entry.lane made.entry.call made.call)) is in
@@ -62,7 +62,7 @@ steps_told_by false c n made is h =
 abbrev steps_made : List Made → ℕ
 steps_made journal = sum_by (λ (made : Made). length made.entry.steps) journal
 
-all_by : (c : Control) (n last : ℕ) (journal : List Made) → History c n journal → n + steps_made journal ≤ last → AreBy last journal
+all_by : (c : ControlState) (n last : ℕ) (journal : List Made) → History c n journal → n + steps_made journal ≤ last → AreBy last journal
 all_by c n last [] h le = tt
 all_by c n last (made ∷ journal) h le =
     let more : ℕ = length made.entry.steps in

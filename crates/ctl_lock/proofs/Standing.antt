@@ -16,7 +16,7 @@ use Rattle.p4_types.specs.declared.events.Start.{Start}
 use Rattle.p4_types.specs.declared.journal.Entry.{Entry}
 use Rattle.p4_types.specs.declared.journal.Step.{Step}
 use Rattle.plane_spec.specs.Config.{Event}
-use Rattle.plane_spec.specs.Planes.{Control, opened, apply, applied}
+use Rattle.plane_spec.specs.Planes.{ControlState, opened, apply, applied}
 use Rattle.pub_snap.specs.Snapshots.{Feed, all_of}
 use Rattle.switch_spec.proofs.Answers.{answer_to_sound}
 use Rattle.switch_spec.specs.Answer.{Answer, called, answer, answer_to}
@@ -29,17 +29,17 @@ abbrev pub steps_made : List Made → ℕ
 steps_made journal = sum_by (λ made. length made.entry.steps) journal
 
 -- the events of a journal go on by those of its last call
-pub events_more : (c : Control) (journal : List Made) (m : Made) → journal_events c (journal ++ m ∷ []) ≡ journal_events c journal ++ own_events (applied c (journal_events c journal)) m
+pub events_more : (c : ControlState) (journal : List Made) (m : Made) → journal_events c (journal ++ m ∷ []) ≡ journal_events c journal ++ own_events (applied c (journal_events c journal)) m
 events_more c [] m = append-nil (own_events c m)
 events_more c (j ∷ journal) m =
     let own = own_events c j in
     let d = applied c own in
     ap (λ (l : List Event). own ++ l) (events_more d journal m)
     ∙ sym (append_assoc own (journal_events d journal) (own_events (applied d (journal_events d journal)) m))
-    ∙ ap (λ (x : Control). (own ++ journal_events d journal) ++ own_events x m) (sym (fold-append apply c own (journal_events d journal)))
+    ∙ ap (λ (x : ControlState). (own ++ journal_events d journal) ++ own_events x m) (sym (fold-append apply c own (journal_events d journal)))
 
 -- a history goes on by a call that has its answer
-history_more : (c : Control) (n : ℕ) (journal : List Made) (m : Made) → History c n journal → m.entry ≡ expected (applied c (journal_events c journal)) (n + steps_made journal) m
+history_more : (c : ControlState) (n : ℕ) (journal : List Made) (m : Made) → History c n journal → m.entry ≡ expected (applied c (journal_events c journal)) (n + steps_made journal) m
     → History c n (journal ++ m ∷ [])
 history_more c n [] m h is = (is ∙ ap (λ (k : ℕ). expected c k m) (add-zero n), tt)
 history_more c n (j ∷ journal) m h is =
@@ -51,7 +51,7 @@ history_more c n (j ∷ journal) m h is =
       h.0,
       history_more d (n + more) journal m h.1 (
           is
-          ∙ ap (λ (x : Control). expected x (n + steps_made (j ∷ journal)) m) (fold-append apply c own (journal_events d journal))
+          ∙ ap (λ (x : ControlState). expected x (n + steps_made (j ∷ journal)) m) (fold-append apply c own (journal_events d journal))
           ∙ ap (λ (k : ℕ). expected (applied d (journal_events d journal)) k m) count
           ),
     )
@@ -106,7 +106,7 @@ abbrev with_steps : Reply → ℕ → Reply
 with_steps r n = record r { steps = n }
 
 -- What a call makes of the journal that it follows.
-record IsMore (c new : Control) (n steps k : ℕ) (given now : List Event) (m : Made) : Type 0 where
+record IsMore (c new : ControlState) (n steps k : ℕ) (given now : List Event) (m : Made) : Type 0 where
   entry_is : m.entry ≡ expected c n m
   call_is : m.entry.call ≡ k
   events : now ≡ given ++ own_events c m
@@ -115,7 +115,7 @@ record IsMore (c new : Control) (n steps k : ℕ) (given now : List Event) (m : 
   each_step : length (steps_of (own_events c m)) ≡ length (own_events c m)
   as_many : length m.entry.steps ≡ length (own_events c m)
 
-refused_is : (c new : Control) (n k : ℕ) (given now : List Event) (reply : Reply) (lane : ℕ) (m : Made) → is_unavailable reply.code ≡ true
+refused_is : (c new : ControlState) (n k : ℕ) (given now : List Event) (reply : Reply) (lane : ℕ) (m : Made) → is_unavailable reply.code ≡ true
     → reply ≡ without_memory n → new ≡ c → now ≡ given → m.entry ≡ entry_by lane k (steps_of (drop (length given) now)) reply → IsMore c new n reply.steps k given now m
 refused_is c new n k given now reply lane m none reply_is new_is now_is is =
     let refused : is_refused_for_memory m ≡ true = ap (λ (e : Entry). is_unavailable e.reply.code) is ∙ none in
@@ -138,7 +138,7 @@ refused_is c new n k given now reply lane m none reply_is new_is now_is is =
       as_many = ap length steps_are ∙ ap length (sym own);
     }
 
-answered_is : (c new : Control) (g : Figures) (n k : ℕ) (given now : List Event) (call : LaneCall) (reply : Reply) (lane : ℕ) (m : Made) → is_unavailable reply.code ≡ false
+answered_is : (c new : ControlState) (g : Figures) (n k : ℕ) (given now : List Event) (call : LaneCall) (reply : Reply) (lane : ℕ) (m : Made) → is_unavailable reply.code ≡ false
     → m.call ≡ call → m.figures ≡ g → n ≡ length given → length now ≤ 2 ^ 64 - 1
     → reply ≡ replied n (answer c g lane k call) → new ≡ applied c (answer c g lane k call).events → now ≡ given ++ (answer c g lane k call).events
     → m.entry ≡ entry_by lane k (steps_of (drop (length given) now)) reply → IsMore c new n reply.steps k given now m
@@ -181,7 +181,7 @@ answered_is c new g n k given now call reply lane m there call_is figures_are as
     }
 
 -- by whether there was memory
-more_by : (b : Bool) (c new : Control) (g : Figures) (n k : ℕ) (given now : List Event) (call : LaneCall) (reply : Reply) (lane : ℕ) (m : Made) → is_unavailable reply.code ≡ b
+more_by : (b : Bool) (c new : ControlState) (g : Figures) (n k : ℕ) (given now : List Event) (call : LaneCall) (reply : Reply) (lane : ℕ) (m : Made) → is_unavailable reply.code ≡ b
     → m.call ≡ call → m.figures ≡ g → n ≡ length given → length now ≤ 2 ^ 64 - 1 → HandledBy b c n given (answer c g lane k call) reply new now
     → m.entry ≡ entry_by lane k (steps_of (drop (length given) now)) reply → IsMore c new n reply.steps k given now m
 more_by true c new g n k given now call reply lane m b call_is figures_are as_many few h is = refused_is c new n k given now reply lane m b h.reply_is h.control h.handed is
@@ -203,7 +203,7 @@ standing_by start given now old new journal lane k m h below lane_is k_is calls_
       events_are =
           more.events
           ∙ ap (λ (l : List Event). l ++ own) h.events_are
-          ∙ ap (λ (x : Control). journal_events c journal ++ own_events x m) (sym at)
+          ∙ ap (λ (x : ControlState). journal_events c journal ++ own_events x m) (sym at)
           ∙ sym (events_more c journal m);
       each_step =
           ap (λ (l : List Event). length (steps_of l)) more.events
@@ -212,7 +212,7 @@ standing_by start given now old new journal lane k m h below lane_is k_is calls_
           ∙ ap (λ (x : ℕ). x + length (steps_of own)) h.each_step
           ∙ ap (λ (x : ℕ). length given + x) more.each_step
           ∙ sym size;
-      control = more.control ∙ ap (λ (x : Control). applied x own) h.control ∙ sym (fold-append apply c given own) ∙ ap (applied c) (sym more.events);
+      control = more.control ∙ ap (λ (x : ControlState). applied x own) h.control ∙ sym (fold-append apply c given own) ∙ ap (applied c) (sym more.events);
       steps = more.number ∙ ap (λ (x : ℕ). x + length m.entry.steps) h.steps ∙ ap (λ (x : ℕ). length given + x) more.as_many ∙ sym size;
       counted_steps =
           let zero_more : length m.entry.steps ≡ 0 + length m.entry.steps = omega arith in
@@ -222,7 +222,7 @@ standing_by start given now old new journal lane k m h below lane_is k_is calls_
           ∙ sym (sum_by-append (λ (x : Made). length x.entry.steps) journal (m ∷ []));
       history = history_more c 0 journal m h.history (
           more.entry_is
-          ∙ ap (λ (x : Control). expected x old.steps m) (sym at)
+          ∙ ap (λ (x : ControlState). expected x old.steps m) (sym at)
           ∙ ap (λ (x : ℕ). expected (applied c (journal_events c journal)) x m) (h.counted_steps ∙ from_zero)
           );
       numbered =
@@ -282,7 +282,7 @@ standing_new start events core none control steps calls =
       calls = λ lane within. ap (λ (l : List ℕ). slice_index l lane) calls ∙ zeros 32 lane;
     })
 
-longer_by : (b : Bool) (c new : Control) (n : ℕ) (given now : List Event) (a : Answer) (reply : Reply) → HandledBy b c n given a reply new now → length given ≤ length now
+longer_by : (b : Bool) (c new : ControlState) (n : ℕ) (given now : List Event) (a : Answer) (reply : Reply) → HandledBy b c n given a reply new now → length given ≤ length now
 longer_by true c new n given now a reply h = omega (arith, ap length h.handed)
 longer_by false c new n given now a reply h = omega (arith, ap length h.handed, length-append given a.events)
 
@@ -291,7 +291,7 @@ pub longer : (lane : ℕ) (g : Figures) (call : Call) (old new : Core) (given no
 longer lane g call old new given now reply h =
     longer_by (is_unavailable reply.code) old.control new.control old.steps given now (answer_to old.control g lane (raised (slice_index old.calls lane) 1) call) reply h.handled
 
-short_by : (b : Bool) (c new : Control) (n lane k : ℕ) (g : Figures) (call : Call) (given now : List Event) (reply : Reply) → HandledBy b c n given (answer_to c g lane k call) reply new now
+short_by : (b : Bool) (c new : ControlState) (n lane k : ℕ) (g : Figures) (call : Call) (given now : List Event) (reply : Reply) → HandledBy b c n given (answer_to c g lane k call) reply new now
     → IfSome reply.packet (λ packet. length packet ≤ 9216)
 short_by true c new n lane k g call given now reply h = let P : Reply → Type 0 = λ r. IfSome r.packet (λ packet. length packet ≤ 9216) in subst P (sym h.reply_is) tt
 short_by false c new n lane k g call given now reply h =

@@ -16,7 +16,7 @@ use Rattle.p4_types.specs.declared.calls.Reply.{Reply}
 use Rattle.p4_types.specs.declared.events.Start.{Start}
 use Rattle.p4_types.specs.declared.journal.Entry.{Entry}
 use Rattle.plane_spec.specs.Config.{Event}
-use Rattle.plane_spec.specs.Planes.{Control, opened, applied}
+use Rattle.plane_spec.specs.Planes.{ControlState, opened, applied}
 use Rattle.pub_snap.specs.Beginnings.{Beginning}
 use Rattle.switch_spec.specs.Answer.{answer_to, called}
 use Rattle.switch_spec.specs.Counts.{Figures}
@@ -66,11 +66,11 @@ reads (calls.Read request) = true
 reads _ = false
 
 -- a call that reads saw the counter of each slot that was drawn in this state, unless it was refused for memory
-abbrev pub SeesAll : Control → Signed → Type 0
+abbrev pub SeesAll : ControlState → Signed → Type 0
 SeesAll c signed = is_refused_for_memory (made_of signed) ≡ false → reads (called signed.call) ≡ true → length signed.figures ≡ c.next_slot
 
 -- so did each call of the journal, in the state that the calls before it left
-abbrev pub SeeAll : Control → List Signed → Type 0
+abbrev pub SeeAll : ControlState → List Signed → Type 0
 SeeAll c [] = Unit {0}
 SeeAll c (signed ∷ later) = SeesAll c signed × SeeAll (applied c (own_events c (made_of signed))) later
 

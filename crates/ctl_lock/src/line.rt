@@ -50,19 +50,19 @@ impl<J: Naming, R: Wait + Drop> Press for Line<J, R> {
 
     ghost opening = { λ l. opened J.start };
 
-    fn push(&mut self, events: List<Event<Config>>) -> Result<(), (List<Event<Config>>, NoMemory)> {
+    fn push(&mut self, events: List<Event<Config>>) -> Result<(), List<Event<Config>>> {
         let Ok(mut kinds) = kinds_of(self.alloc, events.as_slice()) else {
-            return Err((events, NoMemory));
+            return Err(events);
         };
         let before = self.kinds.len();
         if self.kinds.append(&mut kinds).is_err() {
-            return Err((events, NoMemory));
+            return Err(events);
         }
         match self.publisher.push(events) {
             Ok(()) => Ok(()),
-            Err(refused) => {
+            Err((events, _)) => {
                 self.kinds.truncate(before);
-                Err(refused)
+                Err(events)
             }
         }
     }

@@ -4,8 +4,8 @@ ghost use Rattle.ctl_lock.specs.Passing.{Follows, RunsAtLast, SameLane};
 ghost use Rattle.plane_spec.specs.Entries.{slot_limit};
 
 use counter_bank::Bank;
-use lane_work::{LaneWork, RunError};
-use list_types::{ByteList, NoMemory};
+use lane_work::LaneWork;
+use list_types::{ByteList, NoMemory, Refusal};
 use pub_snap::Told;
 use std::alloc::Global;
 use std::sync::Wait;
@@ -30,8 +30,8 @@ pub fn run_at_last<W: Wait>(
     for _ in rt.forever() {
         match work.run(alloc, bank, port, packet) {
             Ok(()) => return Ok(()),
-            Err(RunError::NoMemory) => return Err(NoMemory),
-            Err(RunError::NoEntry) => {}
+            Err(Refusal::NoMemory) => return Err(NoMemory),
+            Err(Refusal::For(_)) => {}
         }
         yield_now();
     }

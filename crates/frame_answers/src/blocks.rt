@@ -1,6 +1,6 @@
 //! Header blocks.
-use hpack_tables::{BlockError, Decoder, Header, HpackFault, encode, encode_size_update};
-use list_types::{ByteList, List};
+use hpack_tables::{Decoder, Header, HpackFault, encode, encode_size_update};
+use list_types::{ByteList, List, Refusal};
 use row_lines::{NoAnswer, bytes, say, tell, tell_hex};
 use std::alloc::Global;
 
@@ -33,8 +33,8 @@ fn tell_block(
             say(told, "headers");
             tell_headers(alloc, told, headers.as_slice());
         }
-        Err(BlockError::Broken(fault)) => tell_fault(told, fault),
-        Err(BlockError::NoMemory) => return Err(NoAnswer),
+        Err(Refusal::For(fault)) => tell_fault(told, fault),
+        Err(Refusal::NoMemory) => return Err(NoAnswer),
     }
     say(told, "table");
     tell_headers(alloc, told, decoder.entries()?.as_slice());
@@ -102,8 +102,8 @@ pub fn long_value(alloc: Global, length: &str, told: &mut String) -> Result<(), 
     tell(told, value.iter().all(|byte| *byte == b'a'));
     match Decoder::new(alloc).block(bytes) {
         Ok(headers) => tell(told, headers.len()),
-        Err(BlockError::Broken(fault)) => tell_fault(told, fault),
-        Err(BlockError::NoMemory) => return Err(NoAnswer),
+        Err(Refusal::For(fault)) => tell_fault(told, fault),
+        Err(Refusal::NoMemory) => return Err(NoAnswer),
     }
     Ok(())
 }

@@ -1,8 +1,6 @@
 //! Frames, read and written again.
-use h2_frames::{
-    Frame, FrameError, H2Code, StreamPriority, check_head, read_head, read_payload, write_frame,
-};
-use list_types::ByteList;
+use h2_frames::{Frame, H2Code, StreamPriority, check_head, read_head, read_payload, write_frame};
+use list_types::{ByteList, Refusal};
 use row_lines::{NoAnswer, bytes, say, tell, tell_hex};
 use std::alloc::Global;
 
@@ -156,8 +154,8 @@ pub fn frame(alloc: Global, hex: &str, told: &mut String) -> Result<(), NoAnswer
             say(told, "written");
             tell_hex(alloc, told, written.as_slice());
         }
-        Err(FrameError::Refused(code)) => tell_code(told, code),
-        Err(FrameError::NoMemory) => return Err(NoAnswer),
+        Err(Refusal::For(code)) => tell_code(told, code),
+        Err(Refusal::NoMemory) => return Err(NoAnswer),
     }
     Ok(())
 }

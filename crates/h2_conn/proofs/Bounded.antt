@@ -14,7 +14,8 @@ use Rattle.h2_frames.specs.declared.frame.Frame.TheVariants as frames
 use Rattle.h2_frames.specs.declared.frame.Setting.{Setting}
 use Rattle.h2_frames.specs.declared.head.Head.{Head}
 use Rattle.h2_frames.specs.Codes.{header_table_size, initial_window_size, max_frame_size, end_headers_flag}
-use Rattle.h2_frames.specs.Reading.{◌>>=◌, unless, has, head_at, frame_at, continuation_at}
+use Rattle.list_types.specs.Results.{◌>>=◌, unless}
+use Rattle.h2_frames.specs.Reading.{has, head_at, frame_at, continuation_at}
 use Rattle.hpack_tables.specs.declared.fault.HpackFault.{HpackFault}
 use Rattle.hpack_tables.specs.declared.fault.HpackFault.TheVariants as faults
 use Rattle.hpack_tables.specs.declared.header.Header.{Header}

@@ -1,16 +1,17 @@
 -- CONTINUATION whose payload is gathered behind its header block.
-use Rattle.std.proofs.Common.{◌≡◌, ℕ, zero, suc, ◌+◌, ◌-◌, ◌<◌, ◌≤◌, Bool, true, false, List, [], ◌∷◌, ◌++◌, length, take, drop, Option, Some, None, Result, Ok, Err, refl, sym, ap, ◌∙◌, append_assoc, inl, inr, subst, arith}
-use Rattle.std.specs.Prelude.{◌==◌, ◌||◌, ◌&&◌, not, nat_lt, if◌then◌else◌}
+use Rattle.std.proofs.Common.{◌≡◌, ℕ, ◌+◌, ◌<◌, ◌≤◌, Bool, true, false, List, [], ◌++◌, length, take, drop, Option, Some, None, Result, Ok, Err, refl, sym, ap, ◌∙◌, append_assoc, inl, inr, subst, arith}
+use Rattle.std.specs.Prelude.{◌==◌, ◌||◌, ◌&&◌, not, if◌then◌else◌}
 use Rattle.std.proofs.lemmas.Bool.{le-ltb, lt-ltb, eq-eqb, eqb-true}
 use Rattle.std.proofs.lemmas.List.{append-nil, length-append, take-append-le, drop-append-le, take-append-drop}
-use Rattle.std.proofs.Math.Seq.{take-append_seam, drop-append_seam, take-length, drop-length}
+use Rattle.std.proofs.Math.Seq.{take-append_seam, take-length, drop-length}
 use Rattle.list_types.specs.declared.memory.Refusal.{Refusal}
 use Rattle.list_types.specs.declared.memory.Refusal.TheVariants as refusals
 use Rattle.h2_frames.specs.declared.codes.H2Code.{H2Code}
 use Rattle.h2_frames.specs.declared.codes.H2Code.TheVariants as codes
 use Rattle.h2_frames.specs.declared.head.Head.{Head}
 use Rattle.h2_frames.specs.Codes.{end_headers_flag}
-use Rattle.h2_frames.specs.Reading.{unless, has, head_at}
+use Rattle.list_types.specs.Results.{unless}
+use Rattle.h2_frames.specs.Reading.{has, head_at}
 use Rattle.h2_conn.specs.declared.state.State.{State}
 use Rattle.h2_conn.specs.declared.state.HeaderBlock.{HeaderBlock}
 use Rattle.h2_conn.specs.declared.receiver.PartialContinuation.{PartialContinuation}

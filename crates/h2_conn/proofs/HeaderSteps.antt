@@ -8,7 +8,8 @@ use Rattle.h2_frames.specs.declared.frame.Frame.{Frame}
 use Rattle.h2_frames.specs.declared.frame.Frame.TheVariants as frames
 use Rattle.h2_frames.specs.declared.head.Head.{Head}
 use Rattle.h2_frames.specs.Codes.{end_headers_flag}
-use Rattle.h2_frames.specs.Reading.{◌>>=◌, unless, has, frame_at, continuation_at}
+use Rattle.list_types.specs.Results.{◌>>=◌, unless}
+use Rattle.h2_frames.specs.Reading.{has, frame_at, continuation_at}
 use Rattle.h2_streams.specs.declared.stream.Stream.{Stream}
 use Rattle.h2_conn.specs.declared.state.State.{State}
 use Rattle.h2_conn.specs.declared.state.HeaderBlock.{HeaderBlock}

@@ -2,7 +2,7 @@
 use Rattle.std.proofs.Common.{◌≡◌, Bool, true, false, Result, Ok, Err, refl}
 use Rattle.std.specs.Prelude.{if◌then◌else◌}
 use Rattle.h2_frames.specs.declared.codes.H2Code.{H2Code}
-use Rattle.h2_frames.specs.Reading.{◌>>=◌, unless}
+use Rattle.list_types.specs.Results.{◌>>=◌, unless}
 
 abbrev pub AllOf : {X : Type 0} → (X → Type 0) → Result X H2Code → Type 0
 AllOf P (Ok x) = P x

@@ -13,7 +13,8 @@ use Rattle.h2_frames.specs.declared.frame.Setting.{Setting}
 use Rattle.h2_frames.specs.declared.head.Head.{Head}
 use Rattle.h2_frames.specs.Codes.{code_number, header_table_size, initial_window_size, max_frame_size}
 use Rattle.h2_frames.specs.Layout.{payload_of, spelling}
-use Rattle.h2_frames.specs.Reading.{unless, head_at, frame_at}
+use Rattle.list_types.specs.Results.{unless}
+use Rattle.h2_frames.specs.Reading.{head_at, frame_at}
 use Rattle.hpack_tables.specs.declared.header.Header.{Header}
 use Rattle.hpack_tables.specs.Tables.{Table}
 use Rattle.hpack_tables.specs.Blocks.{block_at}

@@ -1,14 +1,16 @@
 -- How many bytes go out.
 use Rattle.std.proofs.Common.{◌≡◌, ℕ, zero, suc, ◌+◌, ◌-◌, ◌*◌, ◌/◌, ◌%◌, ◌≤◌, ◌<◌, Bool, true, false, List, [], ◌∷◌, ◌++◌, length, take, drop, length-take, length-drop, None, refl, ap, ◌∙◌, arith}
 use Rattle.std.specs.Prelude.{nat_lt, ◌==◌, sum_by}
-use Rattle.std.proofs.lemmas.Bool.{cond_both, ltb-true, ltb-false, eqb-false}
+use Rattle.std.proofs.lemmas.Bool.{cond_both, ltb-true, eqb-false}
 use Rattle.std.proofs.lemmas.List.{length-append}
 use Rattle.std.proofs.lemmas.List.Concat.{flat_map-cons}
 use Rattle.std.proofs.lemmas.List.Sums.{sum_by-cons}
 use Rattle.h2_frames.specs.declared.frame.Frame.{Frame}
 use Rattle.h2_frames.specs.declared.frame.Frame.TheVariants as frames
 use Rattle.h2_frames.specs.Layout.{payload_of, spelling}
-use Rattle.hpack_tables.specs.Writing.{digits, update_bytes}
+use Rattle.canon_bytes.specs.Base128.{base_128}
+use Rattle.canon_bytes.proofs.Base128Steps.{one_byte}
+use Rattle.hpack_tables.specs.Writing.{update_bytes}
 use Rattle.h2_streams.specs.declared.stream.Stream.{Stream}
 use Rattle.h2_streams.specs.declared.stream.Waiting.{Waiting}
 use Rattle.h2_streams.specs.declared.stream.Waiting.TheVariants as waitings
@@ -60,22 +62,22 @@ header_long size stream most end_stream block wide short =
     omega (arith, frames_long front rest, continued_long (length block) size stream (drop size block) (omega (arith, wide)), length-take size block, length-drop size block, less, wide, short))
     (λ e. omega (arith, frames_long whole [], short))
 
-one_digit : (k value : ℕ) → value < 128 → length (digits k value) ≤ 1
-unfolding digits
+one_digit : (k value : ℕ) → value < 128 → length (base_128 k value) ≤ 1
+unfolding base_128
 one_digit zero value less = omega arith
-one_digit (suc k) value less = cond_both (nat_lt value 128) (value ∷ []) ((value % 128 + 128) ∷ digits k (value / 128)) (λ (x : List ℕ). length x ≤ 1) (λ e. omega arith) (λ e. absurd (omega (arith, ltb-false value 128 e, less)))
+one_digit (suc k) value less = rw (one_byte k value less) (omega arith)
 
-two_digits : (k value : ℕ) → value < 16384 → length (digits k value) ≤ 2
-unfolding digits
+two_digits : (k value : ℕ) → value < 16384 → length (base_128 k value) ≤ 2
+unfolding base_128
 two_digits zero value less = omega arith
 two_digits (suc k) value less =
     let rest = one_digit k (value / 128) (omega (arith, less)) in
-    cond_both (nat_lt value 128) (value ∷ []) ((value % 128 + 128) ∷ digits k (value / 128)) (λ (x : List ℕ). length x ≤ 2) (λ e. omega arith) (λ e. omega (arith, rest))
+    cond_both (nat_lt value 128) (value ∷ []) ((value % 128 + 128) ∷ base_128 k (value / 128)) (λ (x : List ℕ). length x ≤ 2) (λ e. omega arith) (λ e. omega (arith, rest))
 
 update_long : (size : ℕ) → size ≤ 4096 → length (update_bytes size) ≤ 3
 update_long size small =
     let rest = two_digits 10 (size - 31) (omega (arith, small)) in
-    cond_both (nat_lt size 31) ((32 + size) ∷ []) (63 ∷ digits 10 (size - 31)) (λ (x : List ℕ). length x ≤ 3) (λ e. omega arith) (λ e. omega (arith, rest))
+    cond_both (nat_lt size 31) ((32 + size) ∷ []) (63 ∷ base_128 10 (size - 31)) (λ (x : List ℕ). length x ≤ 3) (λ e. omega arith) (λ e. omega (arith, rest))
 
 -- ---- what is to be sent
 

@@ -6,7 +6,7 @@ use Rattle.std.proofs.lemmas.Bool.{cases_lt, lt-ltb, le-ltb, ltb-false}
 use Rattle.hpack_tables.specs.declared.fault.HpackFault.{HpackFault}
 use Rattle.hpack_tables.specs.declared.fault.HpackFault.TheVariants as faults
 use Rattle.hpack_tables.specs.declared.header.Header.{Header}
-use Rattle.hpack_tables.specs.Reading.{◌>>=◌, unless}
+use Rattle.list_types.specs.Results.{◌>>=◌, unless}
 use Rattle.hpack_tables.specs.Integers.{integer_at}
 use Rattle.hpack_tables.specs.Tables.{Table, entry_size, fitting, inserted, resized}
 use Rattle.hpack_tables.specs.Blocks.{indexed_at, literal_at, kept, added, field_at, fields_in, is_update, update_at, updates_in, block_at}

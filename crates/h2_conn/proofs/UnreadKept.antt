@@ -8,7 +8,8 @@ use Rattle.h2_frames.specs.declared.frame.Frame.TheVariants as frames
 use Rattle.h2_frames.specs.declared.frame.Setting.{Setting}
 use Rattle.h2_frames.specs.declared.head.Head.{Head}
 use Rattle.h2_frames.specs.Codes.{header_table_size, initial_window_size, max_frame_size}
-use Rattle.h2_frames.specs.Reading.{◌>>=◌, unless, frame_at}
+use Rattle.list_types.specs.Results.{◌>>=◌, unless}
+use Rattle.h2_frames.specs.Reading.{frame_at}
 use Rattle.h2_streams.specs.declared.stream.Stream.{Stream}
 use Rattle.h2_streams.specs.Streams.{max_window, opened, is_too_wide, granted, received, stream_at, changed, open_count, swept, any_too_wide}
 use Rattle.hpack_tables.specs.declared.header.Header.{Header}

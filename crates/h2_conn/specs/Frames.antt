@@ -3,16 +3,15 @@ use Rattle.std.specs.Prelude.{◌≡◌, ℕ, ◌+◌, ◌-◌, ◌%◌, ◌==�
 use Rattle.std.specs.List.{list_any}
 use Rattle.list_types.specs.declared.memory.Refusal.{Refusal}
 use Rattle.list_types.specs.declared.memory.Refusal.TheVariants as refusals
+use Rattle.list_types.specs.Results.{◌>>=◌, unless}
 use Rattle.h2_frames.specs.declared.codes.H2Code.{H2Code}
 use Rattle.h2_frames.specs.declared.codes.H2Code.TheVariants as codes
-use Rattle.h2_frames.specs.declared.codes.FrameError.{FrameError}
-use Rattle.h2_frames.specs.declared.codes.FrameError.TheVariants as errors
 use Rattle.h2_frames.specs.declared.frame.Frame.{Frame}
 use Rattle.h2_frames.specs.declared.frame.Frame.TheVariants as frames
 use Rattle.h2_frames.specs.declared.frame.Setting.{Setting}
 use Rattle.h2_frames.specs.declared.head.Head.{Head}
 use Rattle.h2_frames.specs.Codes.{header_table_size, initial_window_size, max_frame_size}
-use Rattle.h2_frames.specs.Reading.{◌>>=◌, unless, frame_at}
+use Rattle.h2_frames.specs.Reading.{frame_at}
 use Rattle.hpack_tables.specs.declared.fault.HpackFault.{HpackFault}
 use Rattle.hpack_tables.specs.declared.fault.HpackFault.TheVariants as faults
 use Rattle.hpack_tables.specs.declared.header.Header.{Header}
@@ -93,10 +92,10 @@ for_code (Ok frame) = Ok frame
 for_code (Err code) = Err (refusals.For code)
 
 -- What a function made of what was read of a frame is what the definition says.
-abbrev pub Judges : Result Frame (Refusal H2Code) → Bool → Result Frame FrameError → Type 0
-Judges result misplaced (Err errors.NoMemory) = result ≡ Err refusals.NoMemory
+abbrev pub Judges : Result Frame (Refusal H2Code) → Bool → Result Frame (Refusal H2Code) → Type 0
+Judges result misplaced (Err refusals.NoMemory) = result ≡ Err refusals.NoMemory
 Judges result misplaced (Ok frame) = result ≡ for_code (judged misplaced (Ok frame))
-Judges result misplaced (Err (errors.Refused code)) = result ≡ for_code (judged misplaced (Err code))
+Judges result misplaced (Err (refusals.For code)) = result ≡ for_code (judged misplaced (Err code))
 
 -- ---- DATA (sections 5.2 and 6.1)
 
@@ -242,9 +241,3 @@ abbrev pub Takes : {X : Type 0} → Result X (Refusal H2Code) → State → Stat
 Takes (Ok x) old new taken = taken ≡ Ok (new, x)
 Takes (Err refusals.NoMemory) old new taken = Unit {0}
 Takes (Err (refusals.For code)) old new taken = (taken ≡ Err code) × (new.outgoing.output ≡ old.outgoing.output)
-
--- the same of a function that gives nothing else
-abbrev pub ReadsBlock : Result (List Header) (Refusal H2Code) → Table → Result (List Header × Table) H2Code → Type 0
-ReadsBlock (Ok headers) table read = read ≡ Ok (headers, table)
-ReadsBlock (Err refusals.NoMemory) table read = Unit {0}
-ReadsBlock (Err (refusals.For code)) table read = read ≡ Err code

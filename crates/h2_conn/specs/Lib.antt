@@ -1,5 +1,4 @@
 pub mod Apart
-pub mod Blocks
 pub mod Frames
 pub mod Bytes
 pub mod Continuations

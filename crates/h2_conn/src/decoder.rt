@@ -1,9 +1,9 @@
 //! The decoder of a connection that no breach has ended.
 ghost use Rattle.std.specs.Prelude.{◌≡◌, []};
+ghost use Rattle.list_types.specs.Results.{Gives};
 ghost use Rattle.hpack_tables.specs.Blocks.{block_at};
-ghost use Rattle.h2_conn.specs.Blocks.{Decodes, refusal_of};
 
-use hpack_tables::{BlockError, Decoder, Header, HpackFault};
+use hpack_tables::{Decoder, Header, HpackFault};
 use list_types::{List, Refusal};
 use std::alloc::Global;
 use std::marker::Model;
@@ -25,15 +25,6 @@ impl Model for BlockDecoder {
     ghost invariant = { λ decoder. decoder.decoder.broken ≡ None };
 }
 
-fn refusal(error: BlockError) -> Refusal<HpackFault>
-    ensures { result ≡ refusal_of error }
-{
-    match error {
-        BlockError::NoMemory => Refusal::NoMemory,
-        BlockError::Broken(fault) => Refusal::For(fault),
-    }
-}
-
 impl BlockDecoder {
     /// A decoder with an empty table of at most 4,096 bytes.
     pub fn new(alloc: Global) -> BlockDecoder
@@ -50,13 +41,13 @@ impl BlockDecoder {
         alloc: Global,
         bytes: &[u8],
     ) -> Result<List<Header>, Refusal<HpackFault>>
-        ensures { Decodes result self.new (block_at self.old bytes.now) }
+        ensures { Gives (λ headers. (headers, self.new)) result (block_at self.old bytes.now) }
     {
         match self.decoder.block(bytes) {
             Ok(headers) => Ok(headers),
             Err(error) => {
                 self.decoder = Decoder::new(alloc);
-                Err(refusal(error))
+                Err(error)
             }
         }
     }

@@ -1,10 +1,11 @@
 //! HEADERS and CONTINUATION.
 ghost use Rattle.std.specs.Prelude.{◌≡◌, ◌+◌, ◌-◌, ◌++◌, ◌<◌, ◌^◌, [], Some, None, Ok, Err, IfOk, OnOk};
 ghost use Rattle.std.specs.Option.{option_map};
+ghost use Rattle.list_types.specs.Results.{Gives};
 ghost use Rattle.h2_streams.specs.declared.stream.Stream.{Stream};
 ghost use Rattle.hpack_tables.specs.Blocks.{block_at};
 ghost use Rattle.h2_streams.specs.Streams.{stream_at};
-ghost use Rattle.h2_conn.specs.Frames.{Takes, given, decoded, headers_of, block_taken, fragment_taken, next_number, skipped_before, is_crowded, headers_taken, continuation_taken, ReadsBlock};
+ghost use Rattle.h2_conn.specs.Frames.{Takes, given, decoded, headers_of, block_taken, fragment_taken, next_number, skipped_before, is_crowded, headers_taken, continuation_taken};
 
 use crate::decoder::BlockDecoder;
 use crate::event::{Given, H2Event, nothing};
@@ -62,7 +63,7 @@ fn decode(
     decoder: &mut BlockDecoder,
     fragment: &[u8],
 ) -> Result<List<Header>, Refusal<H2Code>>
-    ensures { ReadsBlock result decoder.new (decoded (block_at decoder.old fragment.now)) }
+    ensures { Gives (λ headers. (headers, decoder.new)) result (decoded (block_at decoder.old fragment.now)) }
 {
     match decoder.block(alloc, fragment) {
         Ok(headers) => Ok(headers),

@@ -3,7 +3,7 @@ ghost use Rattle.std.specs.Prelude.{◌≡◌};
 ghost use Rattle.h2_conn.specs.Frames.{is_idle, was_skipped, breaks_block, breaks_order, breaks_idle, is_misplaced, judged, Judges};
 
 use crate::state::{HeaderBlock, Skipped, State};
-use h2_frames::{Frame, FrameError, H2Code, Head};
+use h2_frames::{Frame, H2Code, Head};
 use list_types::Refusal;
 
 fn was_skipped(stream: u32, skipped: &[Skipped]) -> bool
@@ -58,7 +58,7 @@ pub(crate) fn is_misplaced(head: &Head, conn: &State) -> bool
 #[tactic(auto, unfolding(crate::specs::Frames::judged))]
 pub(crate) fn judged(
     misplaced: bool,
-    read: Result<Frame, FrameError>,
+    read: Result<Frame, Refusal<H2Code>>,
 ) -> Result<Frame, Refusal<H2Code>>
     ensures { Judges result misplaced read }
 {
@@ -69,13 +69,13 @@ pub(crate) fn judged(
             }
             Ok(frame)
         }
-        Err(FrameError::NoMemory) => Err(Refusal::NoMemory),
-        Err(FrameError::Refused(H2Code::FlowControlError)) => {
+        Err(Refusal::NoMemory) => Err(Refusal::NoMemory),
+        Err(Refusal::For(H2Code::FlowControlError)) => {
             if misplaced {
                 return Err(Refusal::For(H2Code::ProtocolError));
             }
             Err(Refusal::For(H2Code::FlowControlError))
         }
-        Err(FrameError::Refused(code)) => Err(Refusal::For(code)),
+        Err(Refusal::For(code)) => Err(Refusal::For(code)),
     }
 }

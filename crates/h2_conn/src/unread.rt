@@ -1,11 +1,10 @@
 //! The bytes of a frame that is not whole.
 ghost use Rattle.std.specs.Prelude.{◌≡◌, ◌==◌, ◌+◌, ◌≤◌, ◌<◌, ◌⊎◌, ◌++◌, [], length, take, drop, MatchOption, OnOk, IfOk};
-ghost use Rattle.h2_frames.specs.Reading.{head_at, frame_at, Gives};
+ghost use Rattle.list_types.specs.Results.{Gives};
+ghost use Rattle.h2_frames.specs.Reading.{head_at, frame_at};
 
-use h2_frames::{
-    Frame, FrameError, Head, is_padded_data, read_gathered, read_head, read_padded_data,
-};
-use list_types::{ByteList, NoMemory};
+use h2_frames::{Frame, H2Code, Head, is_padded_data, read_gathered, read_head, read_padded_data};
+use list_types::{ByteList, NoMemory, Refusal};
 use std::alloc::Global;
 use std::marker::Model;
 
@@ -133,7 +132,7 @@ impl Unread {
     }
 
     /// The frame of this head, which is whole. Its payload is not copied.
-    pub fn into_frame(self, alloc: Global, head: &Head) -> Result<Frame, FrameError>
+    pub fn into_frame(self, alloc: Global, head: &Head) -> Result<Frame, Refusal<H2Code>>
         requires first { head.now ≡ head_at (take 9 self) }
         requires whole { 9 + head.now.length ≤ length self }
         ensures { Gives (λ x. x) result (frame_at head.now (take head.now.length (drop 9 self))) }
@@ -145,7 +144,7 @@ impl Unread {
                 payload.truncate(count - 1);
                 match read_padded_data(head, padding, ByteList::from_vec(payload)) {
                     Ok(frame) => Ok(frame),
-                    Err(code) => Err(FrameError::Refused(code)),
+                    Err(code) => Err(Refusal::For(code)),
                 }
             }
             _ => {

@@ -4,16 +4,17 @@ use Rattle.std.specs.List.{list_any}
 use Rattle.std.specs.Int.{w64, from_be_bytes}
 use Rattle.std.proofs.lemmas.List.{length-take}
 use Rattle.std.proofs.lemmas.Bool.Decides.{nat_tests}
+use Rattle.list_types.specs.declared.memory.Refusal.{Refusal}
+use Rattle.list_types.specs.Results.{◌>>=◌, unless, Gives}
 use Rattle.h2_frames.specs.declared.codes.H2Code.{H2Code}
 use Rattle.h2_frames.specs.declared.codes.H2Code.TheVariants.{ProtocolError, FlowControlError, FrameSizeError}
-use Rattle.h2_frames.specs.declared.codes.FrameError.{FrameError}
 use Rattle.h2_frames.specs.declared.frame.Frame.{Frame}
 use Rattle.h2_frames.specs.declared.frame.Frame.TheVariants as frames
 use Rattle.h2_frames.specs.declared.frame.Setting.{Setting}
 use Rattle.h2_frames.specs.declared.head.Head.{Head}
 use Rattle.h2_frames.specs.Codes.{end_stream_flag, ack_flag, end_headers_flag, padded_flag, priority_flag}
 use Rattle.h2_frames.specs.Layout.{payload_of}
-use Rattle.h2_frames.specs.Reading.{◌>>=◌, unless, Gives, has, unpadded, low_31_at, number_at, priority_at, data_at, headers_at, priority_frame_at, rst_stream_at, settings_in, breaks_protocol, breaks_flow_control, checked, settings_at, push_promise_at, ping_at, goaway_at, window_update_at, continuation_at, unknown_at, frame_at}
+use Rattle.h2_frames.specs.Reading.{has, unpadded, low_31_at, number_at, priority_at, data_at, headers_at, priority_frame_at, rst_stream_at, settings_in, breaks_protocol, breaks_flow_control, checked, settings_at, push_promise_at, ping_at, goaway_at, window_update_at, continuation_at, unknown_at, frame_at}
 use Rattle.h2_frames.specs.Laws.{NumbersFit}
 use Rattle.h2_frames.proofs.Settings.{settings_length}
 
@@ -181,10 +182,10 @@ frame_fits head payload small =
     ) in
     ((above, small), omega arith)))))))))))
 
-pub fits_from : (head : Head) (payload : List ℕ) (result : Result Frame FrameError) → Gives (λ x. x) result (frame_at head payload) → head.stream < 2 ^ 31 → IfOk result NumbersFit
+pub fits_from : (head : Head) (payload : List ℕ) (result : Result Frame (Refusal H2Code)) → Gives (λ x. x) result (frame_at head payload) → head.stream < 2 ^ 31 → IfOk result NumbersFit
 fits_from head payload (Ok frame) e small = (rw e at (frame_fits head payload small)).0
 fits_from head payload (Err error) e small = tt
 
-pub short_from : (head : Head) (payload : List ℕ) (result : Result Frame FrameError) → Gives (λ x. x) result (frame_at head payload) → head.stream < 2 ^ 31 → IfOk result (λ frame. length (payload_of frame) ≤ length payload)
+pub short_from : (head : Head) (payload : List ℕ) (result : Result Frame (Refusal H2Code)) → Gives (λ x. x) result (frame_at head payload) → head.stream < 2 ^ 31 → IfOk result (λ frame. length (payload_of frame) ≤ length payload)
 short_from head payload (Ok frame) e small = (rw e at (frame_fits head payload small)).1
 short_from head payload (Err error) e small = tt

@@ -1,38 +1,16 @@
 -- What a frame is, or the code of the first rule that it breaks by itself (RFC 9113, sections 4 and 6).
-use Rattle.std.specs.Prelude.{◌≡◌, ℕ, zero, suc, ◌+◌, ◌-◌, ◌/◌, ◌%◌, ◌^◌, ◌&&◌, ◌||◌, ◌==◌, not, nat_lt, Bool, if◌then◌else◌, bit_and, List, [], ◌∷◌, length, take, drop, slice_index, Some, None, Result, Ok, Err}
+use Rattle.std.specs.Prelude.{ℕ, zero, suc, ◌+◌, ◌-◌, ◌/◌, ◌%◌, ◌^◌, ◌&&◌, ◌||◌, ◌==◌, not, nat_lt, Bool, if◌then◌else◌, bit_and, List, [], ◌∷◌, length, take, drop, slice_index, Some, None, Result, Ok}
 use Rattle.std.specs.List.{list_any}
 use Rattle.std.specs.Int.{w16, w32, w64, from_be_bytes}
+use Rattle.list_types.specs.Results.{◌>>=◌, unless}
 use Rattle.h2_frames.specs.declared.codes.H2Code.{H2Code}
 use Rattle.h2_frames.specs.declared.codes.H2Code.TheVariants.{ProtocolError, FlowControlError, FrameSizeError}
-use Rattle.h2_frames.specs.declared.codes.FrameError.{FrameError}
-use Rattle.h2_frames.specs.declared.codes.FrameError.TheVariants as errors
 use Rattle.h2_frames.specs.declared.frame.Frame.{Frame}
 use Rattle.h2_frames.specs.declared.frame.Frame.TheVariants as frames
 use Rattle.h2_frames.specs.declared.frame.Setting.{Setting}
 use Rattle.h2_frames.specs.declared.frame.StreamPriority.{StreamPriority}
 use Rattle.h2_frames.specs.declared.head.Head.{Head}
 use Rattle.h2_frames.specs.Codes.{end_stream_flag, ack_flag, end_headers_flag, padded_flag, priority_flag}
-
-infixl 10 ◌>>=◌
--- the next step of reading, where no rule is broken
-abbrev pub ◌>>=◌ : {A B E : Type 0} → Result A E → (A → Result B E) → Result B E
-(Ok x) >>= f = f x
-(Err code) >>= f = Err code
-
--- the code where a rule is broken, and else what comes after it
-abbrev pub unless : {A : Type 0} → Bool → H2Code → Result A H2Code → Result A H2Code
-unless broken code read = if broken then Err code else read
-
--- What a function returned, seen by view, is what reading gives. Want of memory may come at any time.
-abbrev pub Gives : {X Y : Type 0} → (X → Y) → Result X FrameError → Result Y H2Code → Type 0
-Gives view (Ok x) read = read ≡ Ok (view x)
-Gives view (Err errors.NoMemory) read = Unit {0}
-Gives view (Err (errors.Refused code)) read = read ≡ Err code
-
--- What a function that takes no memory returned, seen by view, is what reading gives.
-abbrev pub GivesExactly : {X Y : Type 0} → (X → Y) → Result X H2Code → Result Y H2Code → Type 0
-GivesExactly view (Ok x) read = read ≡ Ok (view x)
-GivesExactly view (Err code) read = read ≡ Err code
 
 -- the flag is set
 abbrev pub has : ℕ → ℕ → Bool

@@ -1,10 +1,9 @@
-//! Codes of errors, and why a frame is not read.
+//! Codes of errors: the causes for which a frame is not read.
 ghost use Rattle.std.specs.Prelude.{◌≡◌};
+ghost use Rattle.list_types.specs.declared.memory.Refusal.TheVariants as refusals;
 ghost use Rattle.h2_frames.specs.Codes.{code_number};
-ghost use Rattle.h2_frames.specs.declared.codes.FrameError.TheVariants as frame_error;
 
-use list_types::NoMemory;
-use std::alloc::{AllocError, AllocFailed};
+use list_types::Refusal;
 
 /// A code of an error (RFC 9113, section 7). Its number is the variant's value.
 #[derive(Clone, Copy)]
@@ -34,42 +33,10 @@ impl H2Code {
     }
 }
 
-/// Why a frame is not read.
-#[derive(Clone, Copy)]
-pub enum FrameError {
-    NoMemory,
-    /// The frame breaks a rule that has this code.
-    Refused(H2Code),
-}
+impl From<H2Code> for Refusal<H2Code> {
+    ghost from_gives = { λ code e. e ≡ refusals.For code };
 
-impl From<H2Code> for FrameError {
-    ghost from_gives = { λ code e. e ≡ frame_error.Refused code };
-
-    fn from(code: H2Code) -> FrameError {
-        FrameError::Refused(code)
-    }
-}
-
-impl From<NoMemory> for FrameError {
-    ghost from_gives = { λ _ e. e ≡ frame_error.NoMemory };
-
-    fn from(_: NoMemory) -> FrameError {
-        FrameError::NoMemory
-    }
-}
-
-impl From<AllocError> for FrameError {
-    ghost from_gives = { λ _ e. e ≡ frame_error.NoMemory };
-
-    fn from(_: AllocError) -> FrameError {
-        FrameError::NoMemory
-    }
-}
-
-impl<T: Drop> From<AllocFailed<T>> for FrameError {
-    ghost from_gives = { λ _ e. e ≡ frame_error.NoMemory };
-
-    fn from(_failed: AllocFailed<T>) -> FrameError {
-        FrameError::NoMemory
+    fn from(code: H2Code) -> Refusal<H2Code> {
+        Refusal::For(code)
     }
 }

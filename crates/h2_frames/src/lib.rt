@@ -9,7 +9,7 @@ pub mod laws;
 mod reading;
 mod writing;
 
-pub use codes::{FrameError, H2Code};
+pub use codes::H2Code;
 pub use fragment::Fragment;
 pub use frame::{Frame, Setting, StreamPriority};
 pub use head::{Head, check_head, read_head};

@@ -1,16 +1,17 @@
 //! Reading the payload of a frame by its head.
 ghost use Rattle.std.specs.Prelude.{◌≡◌, ◌+◌, ◌*◌, ◌/◌, ◌%◌, ◌^◌, ◌<◌, ◌≤◌, ◌∷◌, length, take, drop, if◌then◌else◌, true, false, Ok, IfOk};
 ghost use Rattle.std.specs.List.{list_any};
-ghost use Rattle.h2_frames.specs.Reading.{Gives, GivesExactly, has, number_at, low_31_at, unpadded, priority_at, is_padded_data, setting_at, settings_in, unknown_at, breaks_protocol, breaks_flow_control, checked, data_at, headers_at, priority_frame_at, rst_stream_at, settings_at, push_promise_at, ping_at, goaway_at, window_update_at, continuation_at, frame_at};
+ghost use Rattle.list_types.specs.Results.{Gives, GivesExactly};
+ghost use Rattle.h2_frames.specs.Reading.{has, number_at, low_31_at, unpadded, priority_at, is_padded_data, setting_at, settings_in, unknown_at, breaks_protocol, breaks_flow_control, checked, data_at, headers_at, priority_frame_at, rst_stream_at, settings_at, push_promise_at, ping_at, goaway_at, window_update_at, continuation_at, frame_at};
 ghost use Rattle.h2_frames.specs.Codes.{padded_flag, end_headers_flag};
 ghost use Rattle.h2_frames.specs.Layout.{payload_of};
 ghost use Rattle.h2_frames.specs.Laws.{NumbersFit};
 
-use crate::codes::{FrameError, H2Code};
+use crate::codes::H2Code;
 use crate::fragment::Fragment;
 use crate::frame::{Frame, Setting, StreamPriority};
 use crate::head::Head;
-use list_types::{ByteList, List};
+use list_types::{ByteList, List, Refusal};
 use std::alloc::Global;
 
 const END_STREAM: u8 = 0x1;
@@ -23,9 +24,9 @@ const PADDED: u8 = 0x8;
 
 const PRIORITY: u8 = 0x20;
 
-const SIZE: FrameError = FrameError::Refused(H2Code::FrameSizeError);
+const SIZE: Refusal<H2Code> = Refusal::For(H2Code::FrameSizeError);
 
-const PROTOCOL: FrameError = FrameError::Refused(H2Code::ProtocolError);
+const PROTOCOL: Refusal<H2Code> = Refusal::For(H2Code::ProtocolError);
 
 fn has(flags: u8, flag: u8) -> bool
     ensures { result ≡ has flags flag }
@@ -48,7 +49,7 @@ fn low_31_at(bytes: &[u8], place: usize) -> u32
     number_at(bytes, place) % 0x8000_0000
 }
 
-fn copied(alloc: Global, bytes: &[u8]) -> Result<ByteList, FrameError>
+fn copied(alloc: Global, bytes: &[u8]) -> Result<ByteList, Refusal<H2Code>>
     ensures { Gives (λ x. x) result (Ok bytes.now) }
 {
     let mut list = ByteList::new(alloc);
@@ -94,7 +95,7 @@ fn priority_at(bytes: &[u8]) -> StreamPriority
 }
 
 #[tactic(auto, unfolding(crate::specs::Reading::data_at))]
-fn data(alloc: Global, head: &Head, bytes: &[u8]) -> Result<Frame, FrameError>
+fn data(alloc: Global, head: &Head, bytes: &[u8]) -> Result<Frame, Refusal<H2Code>>
     ensures { Gives (λ x. x) result (data_at head.now bytes.now) }
 {
     let body = unpadded(bytes, head.flags, 0)?;
@@ -200,7 +201,7 @@ fn setting(bytes: &[u8]) -> Setting
     }
 }
 
-fn settings_in(alloc: Global, bytes: &[u8]) -> Result<List<Setting>, FrameError>
+fn settings_in(alloc: Global, bytes: &[u8]) -> Result<List<Setting>, Refusal<H2Code>>
     requires { length bytes.now % 6 ≡ 0 }
     ensures { Gives (λ x. x) result (Ok (settings_in (length bytes.now / 6) bytes.now)) }
 {
@@ -254,7 +255,7 @@ fn checked(settings: &[Setting]) -> Result<(), H2Code>
 }
 
 #[tactic(auto, unfolding(crate::specs::Reading::settings_at))]
-fn settings(alloc: Global, head: &Head, bytes: &[u8]) -> Result<Frame, FrameError>
+fn settings(alloc: Global, head: &Head, bytes: &[u8]) -> Result<Frame, Refusal<H2Code>>
     ensures { Gives (λ x. x) result (settings_at head.now bytes.now) }
 {
     let ack = has(head.flags, ACK);
@@ -369,7 +370,7 @@ fn unknown(head: &Head, bytes: ByteList) -> Frame
 }
 
 #[tactic(auto, unfolding(crate::specs::Reading::frame_at))]
-fn frame(alloc: Global, head: &Head, bytes: &[u8]) -> Result<Frame, FrameError>
+fn frame(alloc: Global, head: &Head, bytes: &[u8]) -> Result<Frame, Refusal<H2Code>>
     ensures { Gives (λ x. x) result (frame_at head.now bytes.now) }
 {
     match head.kind {
@@ -391,7 +392,7 @@ fn frame(alloc: Global, head: &Head, bytes: &[u8]) -> Result<Frame, FrameError>
 /// refused with the rule's code: FRAME_SIZE_ERROR before PROTOCOL_ERROR before FLOW_CONTROL_ERROR
 /// (RFC 9113, section 6). How long the payload may be is for `check_head`. What is read can be
 /// written again.
-pub fn read_payload(alloc: Global, head: &Head, bytes: &[u8]) -> Result<Frame, FrameError>
+pub fn read_payload(alloc: Global, head: &Head, bytes: &[u8]) -> Result<Frame, Refusal<H2Code>>
     requires whole { length bytes.now ≡ head.now.length }
     ensures exact { Gives (λ x. x) result (frame_at head.now bytes.now) }
     ensures fits { head.now.stream < 2 ^ 31 → IfOk result NumbersFit }
@@ -419,7 +420,7 @@ fn gathered_data(head: &Head, bytes: ByteList) -> Result<Frame, H2Code>
 /// The same of a payload that its caller gives away. It is not copied, but for DATA with padding, which `read_padded_data`
 /// takes in two parts, and for the numbers of SETTINGS.
 #[tactic(auto, unfolding(crate::specs::Reading::frame_at))]
-pub fn read_gathered(alloc: Global, head: &Head, bytes: ByteList) -> Result<Frame, FrameError>
+pub fn read_gathered(alloc: Global, head: &Head, bytes: ByteList) -> Result<Frame, Refusal<H2Code>>
     requires whole { length bytes ≡ head.now.length }
     ensures { Gives (λ x. x) result (frame_at head.now bytes) }
 {

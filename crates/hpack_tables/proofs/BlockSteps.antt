@@ -2,12 +2,12 @@
 use Rattle.std.proofs.Common.{◌≡◌, ℕ, zero, suc, ◌-◌, ◌<◌, ◌≤◌, nat_lt, true, false, List, [], ◌∷◌, ◌++◌, length, Result, Ok, Err, Bor, refl, sym, ap, ◌∙◌, append_assoc, arith}
 use Rattle.std.proofs.lemmas.Bool.{lt-ltb, le-ltb}
 use Rattle.std.proofs.lemmas.List.{append-nil}
+use Rattle.list_types.specs.declared.memory.Refusal.{Refusal}
+use Rattle.list_types.specs.declared.memory.Refusal.TheVariants as refusals
+use Rattle.list_types.specs.Results.{◌>>=◌, unless, Gives}
 use Rattle.hpack_tables.specs.declared.header.Header.{Header}
 use Rattle.hpack_tables.specs.declared.fault.HpackFault.{HpackFault}
 use Rattle.hpack_tables.specs.declared.fault.HpackFault.TheVariants.{ListTooLong}
-use Rattle.hpack_tables.specs.declared.fault.BlockError.{BlockError}
-use Rattle.hpack_tables.specs.declared.fault.BlockError.TheVariants as errors
-use Rattle.hpack_tables.specs.Reading.{◌>>=◌, unless, Gives}
 use Rattle.hpack_tables.specs.Tables.{entry_size, Table}
 use Rattle.hpack_tables.specs.Blocks.{field_at, fields_in, is_update, update_at, updates_in}
 
@@ -74,12 +74,12 @@ unfolding onto
 regrouped headers header (Ok x) = ap (λ (y : List Header). Ok (y, x.1)) (append_assoc headers (header ∷ []) x.0)
 regrouped headers header (Err fault) = refl
 
-pub field_fails : (seen : Header × Bor (List ℕ) → Header × Table × List ℕ) (view : List Header → List Header × Table) (headers : List Header) (n room : ℕ) (table : Table) (rest : List ℕ) (whole : Result (List Header × Table) HpackFault) (error : BlockError)
+pub field_fails : (seen : Header × Bor (List ℕ) → Header × Table × List ℕ) (view : List Header → List Header × Table) (headers : List Header) (n room : ℕ) (table : Table) (rest : List ℕ) (whole : Result (List Header × Table) HpackFault) (error : Refusal HpackFault)
     → 0 < n → 0 < length rest → Gives seen (Err error) (field_at table rest) → onto headers (fields_in n table room rest) ≡ whole → Gives view (Err error) whole
 unfolding onto
 field_fails seen view headers zero room table rest whole error some left e so_far = absurd (omega arith)
-field_fails seen view headers (suc more) room table rest whole errors.NoMemory some left e so_far = tt
-field_fails seen view headers (suc more) room table rest whole (errors.Broken fault) some left e so_far = sym (rw e at (field_next headers (suc more) more room table rest whole refl left so_far))
+field_fails seen view headers (suc more) room table rest whole refusals.NoMemory some left e so_far = tt
+field_fails seen view headers (suc more) room table rest whole (refusals.For fault) some left e so_far = sym (rw e at (field_next headers (suc more) more room table rest whole refl left so_far))
 
 pub too_long : (headers : List Header) (n room size : ℕ) (table : Table) (rest : List ℕ) (whole : Result (List Header × Table) HpackFault) (header : Header) (next_table : Table) (after : List ℕ)
     → 0 < n → 0 < length rest → field_at table rest ≡ Ok (header, next_table, after) → size ≡ entry_size header → room < size → onto headers (fields_in n table room rest) ≡ whole → whole ≡ Err ListTooLong

@@ -1,18 +1,22 @@
 -- The code is prefix-free, by computation over its table.
-use Rattle.std.proofs.Common.{◌≡◌, ℕ, zero, suc, ◌+◌, ◌-◌, ◌*◌, ◌/◌, ◌%◌, ◌^◌, ◌<◌, ◌≤◌, ◌==◌, nat_lt, nat_le, Bool, true, false, ◌&&◌, List, [], ◌∷◌, ◌++◌, length, take, get_or, slice_index, Option, Some, None, refl, sym, ap, ◌∙◌, arith}
+use Rattle.std.proofs.Common.{◌≡◌, ℕ, zero, suc, ◌+◌, ◌-◌, ◌/◌, ◌^◌, ◌<◌, ◌≤◌, ◌==◌, nat_lt, nat_le, Bool, true, false, ◌&&◌, List, ◌++◌, length, take, get_or, slice_index, Option, Some, None, refl, sym, ap, ◌∙◌, arith}
 use Rattle.std.proofs.lemmas.Bool.{and_parts, eqb-true, leb-true, ltb-true}
-use Rattle.std.proofs.lemmas.Nat.{shr-shr, shr_high, shr_below}
+use Rattle.std.proofs.lemmas.Nat.{shr_below}
 use Rattle.std.proofs.Math.Seq.{take-append_seam}
 use Rattle.std.proofs.lemmas.List.{length-append}
+use Rattle.std.proofs.Math.Nat.{mod-eq_of_lt}
+use Rattle.std.specs.Int.Digits.{number_from_digits}
+use Rattle.pkt_bits.specs.Field.{number_bits}
+use Rattle.pkt_bits.proofs.Low.{take-low, number-low, length-low}
 use Rattle.hpack_tables.specs.declared.code.TheConstants.{ROWS, SYMBOLS}
 use Rattle.hpack_tables.specs.Code.{code_lengths, symbols_from, symbol_of}
 use Rattle.hpack_tables.specs.Rows.{symbol_in}
-use Rattle.hpack_tables.specs.Strings.{bits_of, with_symbol, text_from}
+use Rattle.hpack_tables.specs.Strings.{with_symbol, text_from}
 use Rattle.hpack_tables.specs.Windows.{text_of, Begins}
 use Rattle.hpack_tables.specs.Huffman.{code_number, code_of}
 use Rattle.hpack_tables.specs.Laws.{PrefixFree}
 use Rattle.hpack_tables.proofs.RowChecks.{empty_row, all_below, all_below_at, row_is, row_symbol}
-use Rattle.hpack_tables.proofs.BitSteps.{NotYet, next_code, starts, goes_on, ends}
+use Rattle.hpack_tables.proofs.BitSteps.{NotYet, starts, goes_on, ends}
 
 -- the symbol, found in the table
 unfoldable pub in_table : ℕ → ℕ → Option ℕ
@@ -100,7 +104,6 @@ begins symbol count number known code =
 
 -- the bits of a code are read as its symbol
 pub code_read : (symbol : ℕ) (rest : List ℕ) → symbol ≤ 256 → text_from 0 0 (code_of symbol ++ rest) ≡ with_symbol (Some symbol) None (text_from 0 0 rest)
-unfolding bits_of
 code_read symbol rest known =
     let count = slice_index code_lengths symbol in
     let none : count - count ≡ 0 = omega arith in
@@ -108,39 +111,14 @@ code_read symbol rest known =
 
 -- ---- bits as a number
 
-number_of : ℕ → List ℕ → ℕ
-number_of number [] = number
-number_of number (bit ∷ bits) = number_of (2 * number + bit) bits
+small_back : (count number : ℕ) → number < 2 ^ count → number_from_digits 2 (number_bits count number) ≡ number
+small_back count number fits = number-low 0 count number ∙ omega arith ∙ mod-eq_of_lt fits
 
-number_back : (count number : ℕ) → number_of (number / 2 ^ count) (bits_of count number) ≡ number
-unfolding bits_of number_of
-number_back zero number = omega arith
-number_back (suc count) number = ap (λ (n : ℕ). number_of n (bits_of count number)) (next_code number count) ∙ number_back count number
-
-small_back : (count number : ℕ) → number < 2 ^ count → number_of 0 (bits_of count number) ≡ number
-small_back count number fits =
-    let none : number / 2 ^ count ≡ 0 = ap (λ x. x / 2 ^ count) (sym (omega arith)) ∙ shr_high 0 count number fits in
-    ap (λ (n : ℕ). number_of n (bits_of count number)) (sym none) ∙ number_back count number
-
-pub bits_length : (count number : ℕ) → length (bits_of count number) ≡ count
-unfolding bits_of
-bits_length zero number = refl
-bits_length (suc count) number = ap suc (bits_length count number)
-
-high_bits : (count low number : ℕ) → take count (bits_of (count + low) number) ≡ bits_of count (number / 2 ^ low)
-unfolding bits_of
-high_bits zero low number = refl
-high_bits (suc count) low number =
-    let more : suc count + low ≡ suc (count + low) = omega arith in
-    let turned : low + count ≡ count + low = omega arith in
-    let bit : number / 2 ^ low / 2 ^ count ≡ number / 2 ^ (count + low) = shr-shr number low count ∙ ap (λ k. number / 2 ^ k) turned in
-    rw (more, bit) (ap (λ (bits : List ℕ). (number / 2 ^ (count + low) % 2) ∷ bits) (high_bits count low number))
-
-same_front : (count low number other : ℕ) (more : List ℕ) → number < 2 ^ (count + low) → other < 2 ^ count → bits_of (count + low) number ≡ bits_of count other ++ more → number / 2 ^ low ≡ other
+same_front : (count low number other : ℕ) (more : List ℕ) → number < 2 ^ (count + low) → other < 2 ^ count → number_bits (count + low) number ≡ number_bits count other ++ more → number / 2 ^ low ≡ other
 same_front count low number other more fits small e =
-    let front : take count (bits_of count other ++ more) ≡ bits_of count other = ap (λ (k : ℕ). take k (bits_of count other ++ more)) (sym (bits_length count other)) ∙ take-append_seam (bits_of count other) more in
-    let same : bits_of count (number / 2 ^ low) ≡ bits_of count other = sym (high_bits count low number) ∙ ap (take count) e ∙ front in
-    sym (small_back count (number / 2 ^ low) (shr_below number count low fits)) ∙ ap (number_of 0) same ∙ small_back count other small
+    let front : take count (number_bits count other ++ more) ≡ number_bits count other = ap (λ (k : ℕ). take k (number_bits count other ++ more)) (sym (length-low count other)) ∙ take-append_seam (number_bits count other) more in
+    let same : number_bits count (number / 2 ^ low) ≡ number_bits count other = sym (take-low count low (count + low) number refl) ∙ ap (take count) e ∙ front in
+    sym (small_back count (number / 2 ^ low) (shr_below number count low fits)) ∙ ap (number_from_digits 2) same ∙ small_back count other small
 
 abbrev nothing : Option ℕ
 nothing = None
@@ -165,9 +143,9 @@ no_front symbol other (suc count) (suc low) number second more code shorter same
 lengths_add : (bits : List ℕ) (other more : List ℕ) → bits ≡ other ++ more → length bits ≡ length other + length more
 lengths_add bits other more e = ap length e ∙ length-append other more
 
-from_parts : (symbol other count number smaller second : ℕ) (more : List ℕ) → IsCode symbol count number → IsCode other smaller second → bits_of count number ≡ bits_of smaller second ++ more → symbol ≡ other
+from_parts : (symbol other count number smaller second : ℕ) (more : List ℕ) → IsCode symbol count number → IsCode other smaller second → number_bits count number ≡ number_bits smaller second ++ more → symbol ≡ other
 from_parts symbol other count number smaller second more code shorter e =
-    let sizes : count ≡ smaller + length more = sym (bits_length count number) ∙ lengths_add (bits_of count number) (bits_of smaller second) more e ∙ ap (λ k. k + length more) (bits_length smaller second) in
+    let sizes : count ≡ smaller + length more = sym (length-low count number) ∙ lengths_add (number_bits count number) (number_bits smaller second) more e ∙ ap (λ k. k + length more) (length-low smaller second) in
     let now = rw sizes at code in
     no_front symbol other smaller (length more) number second more now shorter (same_front smaller (length more) number second more now.fits shorter.fits (rw sizes at e))
 

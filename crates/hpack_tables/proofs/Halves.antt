@@ -3,14 +3,17 @@ use Rattle.std.proofs.Common.{◌≡◌, ℕ, suc, ◌+◌, ◌*◌, ◌^◌, �
 use Rattle.std.proofs.lemmas.Bool.{eq-eqb, ne_eqb, le-ltb, lt-ltb}
 use Rattle.std.proofs.lemmas.List.{append-nil, drop_more}
 use Rattle.std.proofs.lemmas.Nat.{pow-add}
+use Rattle.list_types.specs.declared.memory.Refusal.{Refusal}
+use Rattle.list_types.specs.declared.memory.Refusal.TheVariants as refusals
+use Rattle.list_types.specs.Results.{Gives, found}
+use Rattle.canon_bytes.specs.Bits.{bits}
+use Rattle.pkt_bits.specs.Field.{number_bits}
+use Rattle.hpack_tables.specs.declared.fault.HpackFault.{HpackFault}
 use Rattle.hpack_tables.specs.declared.fault.HpackFault.TheVariants.{BadHuffman}
-use Rattle.hpack_tables.specs.declared.fault.BlockError.{BlockError}
-use Rattle.hpack_tables.specs.declared.fault.BlockError.TheVariants as errors
-use Rattle.hpack_tables.specs.Reading.{Gives, found}
-use Rattle.hpack_tables.specs.Strings.{bits_of, bits, after, text_from}
+use Rattle.hpack_tables.specs.Strings.{after, text_from}
 use Rattle.hpack_tables.specs.Windows.{text_of, NoSymbol, AreDrained, IsRefused}
 use Rattle.hpack_tables.proofs.RowChecks.{past_longest}
-use Rattle.hpack_tables.proofs.Draining.{with_byte}
+use Rattle.hpack_tables.proofs.BitSteps.{joined}
 
 -- some bytes are decoded, and these bits of them are left
 pub record IsHalf (text : List ℕ) (count number : ℕ) (rest : List ℕ) (whole : Option (List ℕ)) : Type 0 where
@@ -24,7 +27,6 @@ no_octets None = refl
 no_octets (Some text) = refl
 
 pub starts : (bytes : List ℕ) (text : List ℕ) → text ≡ [] → IsHalf text 0 0 bytes (text_from 0 0 (bits bytes))
-unfolding bits_of
 starts bytes text e = rw e (record { so_far = no_octets (text_from 0 0 (bits bytes)); few = omega arith; fits = omega arith; drained = λ rest. refl })
 
 -- where 30 bits are no whole code, no text is left
@@ -37,8 +39,9 @@ pub byte_fits : (count number byte : ℕ) → number < 2 ^ count → byte < 256 
 byte_fits count number byte fits small = omega (arith, pow-add 2 count 8)
 
 byte_text : (count number byte : ℕ) (rest : List ℕ) → byte < 256 → text_of (count + 8) (number * 256 + byte) (bits rest) ≡ text_of count number (bits (byte ∷ rest))
+unfolding bits
 byte_text count number byte rest small =
-    ap (λ (x : List ℕ). text_from 0 0 (x ++ bits rest)) (with_byte count number byte small) ∙ ap (λ (x : List ℕ). text_from 0 0 x) (append_assoc (bits_of count number) (bits_of 8 byte) (bits rest))
+    ap (λ (x : List ℕ). text_from 0 0 (x ++ bits rest)) (joined count 8 number byte small) ∙ ap (λ (x : List ℕ). text_from 0 0 x) (append_assoc (number_bits count number) (number_bits 8 byte) (bits rest))
 
 next_so_far : (text : List ℕ) (count number byte : ℕ) (rest : List ℕ) (whole : Option (List ℕ)) (next : List ℕ) (next_count next_number : ℕ) → byte < 256 → IsHalf text count number (byte ∷ rest) whole
     → AreDrained text (count + 8) (number * 256 + byte) next next_count next_number → after next (text_of next_count next_number (bits rest)) ≡ whole
@@ -61,16 +64,16 @@ is_stuck text count number byte left rest whole next next_count next_number smal
     ap (found BadHuffman) (sym (next_so_far text count number byte rest whole next next_count next_number small (rw e at half) drained)
     ∙ ap (after next) (drained.drained (bits rest) ∙ stuck (bits rest) next_count next_number many))
 
-pub is_refused : (text : List ℕ) (count number byte : ℕ) (left rest : List ℕ) (whole : Option (List ℕ)) (error : BlockError) → byte < 256 → left ≡ byte ∷ rest → IsHalf text count number left whole
+pub is_refused : (text : List ℕ) (count number byte : ℕ) (left rest : List ℕ) (whole : Option (List ℕ)) (error : Refusal HpackFault) → byte < 256 → left ≡ byte ∷ rest → IsHalf text count number left whole
     → IsRefused text (count + 8) (number * 256 + byte) error → Gives {X = List ℕ} (λ x. x) (Err error) (found BadHuffman whole)
-is_refused text count number byte left rest whole errors.NoMemory small e half refused = tt
-is_refused text count number byte left rest whole (errors.Broken fault) small e half refused =
+is_refused text count number byte left rest whole refusals.NoMemory small e half refused = tt
+is_refused text count number byte left rest whole (refusals.For fault) small e half refused =
     let none : None ≡ whole = sym (refused.1 (bits rest)) ∙ ap (after text) (byte_text count number byte rest small) ∙ (rw e at half).so_far in
     ap (found BadHuffman) (sym none) ∙ ap (λ x. Err x) (sym refused.0)
 
 at_end : (text : List ℕ) (count number : ℕ) (rest : List ℕ) (whole : Option (List ℕ)) → rest ≡ [] → IsHalf text count number rest whole
     → after text (cond (nat_lt count 8 && (number + 1 == 2 ^ count)) (Some []) None) ≡ whole
-unfolding text_from
+unfolding text_from bits
 at_end text count number rest whole e half =
     let now = rw e at half in
     ap (after text) (sym (now.drained [])) ∙ now.so_far

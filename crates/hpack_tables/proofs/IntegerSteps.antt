@@ -3,7 +3,8 @@ use Rattle.std.proofs.Common.{◌≡◌, ℕ, ◌+◌, ◌-◌, ◌*◌, ◌%◌
 use Rattle.std.proofs.lemmas.Bool.{lt-ltb, le-ltb, cases_lt}
 use Rattle.std.proofs.Math.Nat.{mul-le-mul_right}
 use Rattle.hpack_tables.specs.declared.fault.HpackFault.{HpackFault}
-use Rattle.hpack_tables.specs.Reading.{unless, byte_at}
+use Rattle.list_types.specs.Results.{unless}
+use Rattle.hpack_tables.specs.Reading.{byte_at}
 use Rattle.hpack_tables.specs.Integers.{integer_from}
 
 -- an integer is read so far

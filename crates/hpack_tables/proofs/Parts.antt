@@ -7,7 +7,7 @@ use Rattle.std.proofs.lemmas.Nat.{pow_pos, mod_below, div-add-mod'}
 use Rattle.std.proofs.Math.Seq.{take-append_seam, drop-append_seam}
 use Rattle.hpack_tables.specs.declared.fault.HpackFault.{HpackFault}
 use Rattle.hpack_tables.specs.declared.fault.HpackFault.TheVariants.{Truncated, BadHuffman}
-use Rattle.hpack_tables.specs.Reading.{◌>>=◌, unless, found}
+use Rattle.list_types.specs.Results.{◌>>=◌, unless, found}
 use Rattle.hpack_tables.specs.Integers.{integer_from, integer_at}
 use Rattle.hpack_tables.specs.Strings.{huffman_text, octets, string_at}
 use Rattle.hpack_tables.specs.Huffman.{IsHuffmanOf}

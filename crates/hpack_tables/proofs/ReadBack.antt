@@ -13,9 +13,10 @@ use Rattle.hpack_tables.specs.Integers.{integer_from, integer_at}
 use Rattle.hpack_tables.specs.Strings.{string_at}
 use Rattle.hpack_tables.specs.Tables.{entry_size, Table}
 use Rattle.hpack_tables.specs.Blocks.{name_at, literal_at, field_at, fields_in, updates_in, block_at}
-use Rattle.hpack_tables.specs.Writing.{digits, length_bytes, string_bytes, header_bytes, block_bytes}
+use Rattle.canon_bytes.specs.Base128.{base_128}
+use Rattle.hpack_tables.specs.Writing.{length_bytes, string_bytes, header_bytes, block_bytes}
 use Rattle.hpack_tables.specs.Laws.{ReadBack}
-use Rattle.hpack_tables.proofs.Digits.{one_byte, more_bytes, quotient_below}
+use Rattle.canon_bytes.proofs.Base128Steps.{one_byte, more_bytes, quotient_below}
 
 split : (n unit : ℕ) → n % 128 * unit + n / 128 * (unit * 128) ≡ n * unit
 split n unit =
@@ -23,18 +24,18 @@ split n unit =
     let high : n / 128 * (unit * 128) ≡ n / 128 * 128 * unit = ap (λ x. n / 128 * x) (omega arith) ∙ sym (mul_assoc (n / 128) 128 unit) in
     ap (λ x. n % 128 * unit + x) high ∙ sym (add-mul (n % 128) (n / 128 * 128) unit) ∙ ap (λ x. x * unit) parts
 
-last_digit : (k value unit n : ℕ) (fault : HpackFault) (rest : List ℕ) → n < 128 → value + n * unit ≤ 2 ^ 32 - 1 → integer_from fault value unit (digits (suc k) n ++ rest) ≡ Ok (value + n * unit, rest)
+last_digit : (k value unit n : ℕ) (fault : HpackFault) (rest : List ℕ) → n < 128 → value + n * unit ≤ 2 ^ 32 - 1 → integer_from fault value unit (base_128 (suc k) n ++ rest) ≡ Ok (value + n * unit, rest)
 unfolding integer_from
 last_digit k value unit n fault rest last fits = rw (one_byte k n last, mod-eq_of_lt last, le-ltb (2 ^ 32 - 1) (value + n * unit) fits, lt-ltb n 128 last) refl
 
-more_digits : (k value unit n : ℕ) (fault : HpackFault) (rest : List ℕ) → 128 ≤ n → value + n * unit ≤ 2 ^ 32 - 1 → integer_from fault value unit (digits (suc k) n ++ rest) ≡ integer_from fault (value + n % 128 * unit) (unit * 128) (digits k (n / 128) ++ rest)
+more_digits : (k value unit n : ℕ) (fault : HpackFault) (rest : List ℕ) → 128 ≤ n → value + n * unit ≤ 2 ^ 32 - 1 → integer_from fault value unit (base_128 (suc k) n ++ rest) ≡ integer_from fault (value + n % 128 * unit) (unit * 128) (base_128 k (n / 128) ++ rest)
 unfolding integer_from
 more_digits k value unit n fault rest le fits =
     let low : (n % 128 + 128) % 128 ≡ n % 128 = omega arith in
     let small : value + n % 128 * unit ≤ 2 ^ 32 - 1 = omega (arith, split n unit) in
     rw (more_bytes k n le, low, le-ltb (2 ^ 32 - 1) (value + n % 128 * unit) small, le-ltb (n % 128 + 128) 128 (omega arith)) refl
 
-pub digits_back : (k value unit n : ℕ) (fault : HpackFault) (rest : List ℕ) → n < 128 ^ suc k → value + n * unit ≤ 2 ^ 32 - 1 → integer_from fault value unit (digits (suc k) n ++ rest) ≡ Ok (value + n * unit, rest)
+pub digits_back : (k value unit n : ℕ) (fault : HpackFault) (rest : List ℕ) → n < 128 ^ suc k → value + n * unit ≤ 2 ^ 32 - 1 → integer_from fault value unit (base_128 (suc k) n ++ rest) ≡ Ok (value + n * unit, rest)
 digits_back zero value unit n fault rest below fits = last_digit 0 value unit n fault rest (omega arith) fits
 digits_back (suc k) value unit n fault rest below fits =
     elim (cases_lt n 128) [

@@ -4,7 +4,7 @@ use Rattle.std.proofs.lemmas.Option.{slice_get_past, slice_get_read}
 use Rattle.hpack_tables.specs.declared.header.Header.{Header}
 use Rattle.hpack_tables.specs.declared.fault.HpackFault.{HpackFault}
 use Rattle.hpack_tables.specs.declared.fault.HpackFault.TheVariants.{BadIndex}
-use Rattle.hpack_tables.specs.Reading.{found}
+use Rattle.list_types.specs.Results.{found}
 use Rattle.hpack_tables.specs.Tables.{header, static_table, entry_size, Table, fitting, inserted, entry_at}
 use Rattle.hpack_tables.proofs.Evictions.{fit_new, fit_none}
 use Rattle.hpack_tables.proofs.StaticChecks.{made, many}

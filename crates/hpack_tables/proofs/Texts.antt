@@ -3,15 +3,19 @@ use Rattle.std.proofs.Common.{◌≡◌, ◌≢◌, ℕ, zero, suc, ◌+◌, ◌
 use Rattle.std.specs.List.{flat_map}
 use Rattle.std.proofs.lemmas.Bool.{and_parts, or_parts, cases_lt, eqb-true, ltb-true, ltb-false, leb-false, eqb-false, ne_eqb}
 use Rattle.std.proofs.lemmas.List.{append-nil}
-use Rattle.std.proofs.lemmas.List.Elements.{All-cons, All-append}
-use Rattle.std.proofs.lemmas.Nat.{shr-shr}
+use Rattle.std.proofs.lemmas.List.Elements.{All-cons}
+use Rattle.std.specs.Int.Digits.{AllBelowBase}
+use Rattle.canon_bytes.specs.Bits.{bits}
+use Rattle.pkt_bits.specs.Field.{number_bits}
+use Rattle.pkt_bits.proofs.Low.{length-low, below-low, below-append}
 use Rattle.hpack_tables.specs.declared.code.TheConstants.{ROWS, SYMBOLS}
 use Rattle.hpack_tables.specs.Code.{code_lengths, symbols_from, symbols_of, first_code, symbol_of}
-use Rattle.hpack_tables.specs.Strings.{bits_of, bits, after, with_symbol, text_from, huffman_text}
+use Rattle.hpack_tables.specs.Strings.{after, with_symbol, text_from, huffman_text}
 use Rattle.hpack_tables.specs.Huffman.{code_number, code_of, IsHuffmanOf}
 use Rattle.hpack_tables.specs.Laws.{OneText}
 use Rattle.hpack_tables.proofs.RowChecks.{empty_row, all_below, all_below_at, past_longest, row_small}
-use Rattle.hpack_tables.proofs.Codes.{in_table, in_table_is, bits_in, number_in, number_is, code_read, bits_length, clash}
+use Rattle.hpack_tables.proofs.BitSteps.{joined}
+use Rattle.hpack_tables.proofs.Codes.{in_table, in_table_is, bits_in, number_in, number_is, code_read, clash}
 
 -- ---- from the codes to the text
 
@@ -94,29 +98,24 @@ not_past bits code symbol e =
     ]
 
 -- the bits of a symbol that is found are its code
-code_back : (bits code symbol : ℕ) → symbol_of bits code ≡ Some symbol → bits_of bits code ≡ code_of symbol
+code_back : (bits code symbol : ℕ) → symbol_of bits code ≡ Some symbol → number_bits bits code ≡ code_of symbol
 unfolding bits_in
 code_back bits code symbol e =
     let le = not_past bits code symbol e in
     let has = has_code_in bits code symbol le (in_table_is bits code le ∙ e) in
     let size : bits_in symbol ≡ bits = has.bits_are in
     let number : code ≡ code_number symbol = sym has.number_are ∙ number_is symbol (omega (arith, size)) in
-    ap (λ (k : ℕ). bits_of k code) (sym size) ∙ ap (bits_of (slice_index code_lengths symbol)) number
+    ap (λ (k : ℕ). number_bits k code) (sym size) ∙ ap (number_bits (slice_index code_lengths symbol)) number
 
 -- the bits of a number with one bit more
-with_bit : (held code bit : ℕ) → bit < 2 → bits_of (suc held) (2 * code + bit) ≡ bits_of held code ++ bit ∷ []
-unfolding bits_of
-with_bit zero code bit small =
-    let low : (2 * code + bit) / 2 ^ 0 % 2 ≡ bit = omega arith in
-    ap (λ (b : ℕ). b ∷ []) low
-with_bit (suc held) code bit small =
-    let half : (2 * code + bit) / 2 ^ 1 ≡ code = omega arith in
-    let turned : 1 + held ≡ suc held = omega arith in
-    let high : (2 * code + bit) / 2 ^ suc held ≡ code / 2 ^ held = ap (λ k. (2 * code + bit) / 2 ^ k) (sym turned) ∙ sym (shr-shr (2 * code + bit) 1 held) ∙ ap (λ x. x / 2 ^ held) half in
-    ap (λ (b : ℕ). (b % 2) ∷ bits_of (suc held) (2 * code + bit)) high ∙ ap (λ (bits : List ℕ). (code / 2 ^ held % 2) ∷ bits) (with_bit held code bit small)
+with_bit : (held code bit : ℕ) → bit < 2 → number_bits (suc held) (2 * code + bit) ≡ number_bits held code ++ bit ∷ []
+with_bit held code bit small =
+    let more : suc held ≡ held + 1 = omega arith in
+    let behind : 2 * code + bit ≡ code * 2 ^ 1 + bit = omega arith in
+    let last : bit / 2 ^ 0 % 2 ≡ bit = omega arith in
+    ap (λ n. number_bits n (2 * code + bit)) more ∙ ap (number_bits (held + 1)) behind ∙ joined held 1 code bit small ∙ ap (λ (b : ℕ). number_bits held code ++ b ∷ []) last
 
-all_ones : (held : ℕ) → held < 8 → bits_of held (2 ^ held - 1) ≡ replicate held 1
-unfolding bits_of
+all_ones : (held : ℕ) → held < 8 → number_bits held (2 ^ held - 1) ≡ replicate held 1
 all_ones zero lt = refl
 all_ones (suc zero) lt = refl
 all_ones (suc (suc zero)) lt = refl
@@ -138,7 +137,7 @@ record AreRead (held code : ℕ) (bits text : List ℕ) : Type 0 where
   pub padding : List ℕ
   pub few : length padding < 8
   pub ones : All (λ bit. bit ≡ 1) padding
-  pub bits_are : bits_of held code ++ bits ≡ flat_map code_of text ++ padding
+  pub bits_are : number_bits held code ++ bits ≡ flat_map code_of text ++ padding
 
 no_octet : All (λ (octet : ℕ). octet < 256) []
 no_octet i d lt = absurd (omega arith)
@@ -150,13 +149,13 @@ empty_is false text e = absurd cc
 at_end : (held code : ℕ) → held < 8 → code + 1 ≡ 2 ^ held → AreRead held code [] []
 at_end held code few ones =
     let last : code ≡ 2 ^ held - 1 = omega (arith, ones) in
-    let same : bits_of held code ≡ replicate held 1 = ap (bits_of held) last ∙ all_ones held few in
+    let same : number_bits held code ≡ replicate held 1 = ap (number_bits held) last ∙ all_ones held few in
     record {
       octets = no_octet;
-      padding = bits_of held code;
-      few = omega (arith, bits_length held code);
+      padding = number_bits held code;
+      few = omega (arith, length-low held code);
       ones = subst (λ (bits : List ℕ). All (λ bit. bit ≡ 1) bits) (sym same) (each_one held);
-      bits_are = append-nil (bits_of held code);
+      bits_are = append-nil (number_bits held code);
     }
 
 one_more : (held code bit : ℕ) (bits text : List ℕ) → bit < 2 → AreRead (suc held) (2 * code + bit) bits text → AreRead held code (bit ∷ bits) text
@@ -165,17 +164,16 @@ one_more held code bit bits text small read = record {
   padding = read.padding;
   few = read.few;
   ones = read.ones;
-  bits_are = sym (append_assoc (bits_of held code) (bit ∷ []) bits) ∙ ap (λ (x : List ℕ). x ++ bits) (sym (with_bit held code bit small)) ∙ read.bits_are;
+  bits_are = sym (append_assoc (number_bits held code) (bit ∷ []) bits) ∙ ap (λ (x : List ℕ). x ++ bits) (sym (with_bit held code bit small)) ∙ read.bits_are;
 }
 
 one_symbol : (held code bit symbol : ℕ) (bits text : List ℕ) → bit < 2 → symbol < 256 → symbol_of (suc held) (2 * code + bit) ≡ Some symbol → AreRead 0 0 bits text → AreRead held code (bit ∷ bits) (symbol ∷ text)
-unfolding bits_of
 one_symbol held code bit symbol bits text small below found read = record {
   octets = All-cons (λ octet. octet < 256) symbol text below read.octets;
   padding = read.padding;
   few = read.few;
   ones = read.ones;
-  bits_are = sym (append_assoc (bits_of held code) (bit ∷ []) bits) ∙ ap (λ (x : List ℕ). x ++ bits) (sym (with_bit held code bit small) ∙ code_back (suc held) (2 * code + bit) symbol found)
+  bits_are = sym (append_assoc (number_bits held code) (bit ∷ []) bits) ∙ ap (λ (x : List ℕ). x ++ bits) (sym (with_bit held code bit small) ∙ code_back (suc held) (2 * code + bit) symbol found)
       ∙ ap (λ (x : List ℕ). code_of symbol ++ x) read.bits_are ∙ sym (append_assoc (code_of symbol) (flat_map code_of text) read.padding);
 }
 
@@ -202,33 +200,24 @@ codes_by (Some symbol) bits held code bit text small found going next e =
     let below : symbol < 256 = omega (arith, known, other) in
     subst (λ (t : List ℕ). AreRead held code (bit ∷ bits) t) rest.1.2 (one_symbol held code bit symbol bits rest.1.0 small below found (next rest.1.0 rest.1.1))
 
-codes_from : (bits : List ℕ) (held code : ℕ) (text : List ℕ) → All (λ bit. bit < 2) bits → text_from held code bits ≡ Some text → AreRead held code bits text
+codes_from : (bits : List ℕ) (held code : ℕ) (text : List ℕ) → AllBelowBase 2 bits → text_from held code bits ≡ Some text → AreRead held code bits text
 unfolding text_from
 codes_from [] held code text small e =
     let given = empty_is (nat_lt held 8 && (code + 1 == 2 ^ held)) text e in
     let parts = and_parts (nat_lt held 8) (code + 1 == 2 ^ held) given.0 in
     subst (λ (t : List ℕ). AreRead held code [] t) given.1 (at_end held code (ltb-true held 8 parts.0) (eqb-true (code + 1) (2 ^ held) parts.1))
 codes_from (bit ∷ bits) held code text small e =
-    codes_by (symbol_of (suc held) (2 * code + bit)) bits held code bit text (small 0 0 (omega arith)) refl
-    (λ text e. codes_from bits (suc held) (2 * code + bit) text (λ i d lt. small (suc i) d (omega arith)) e)
-    (λ text e. codes_from bits 0 0 text (λ i d lt. small (suc i) d (omega arith)) e)
+    codes_by (symbol_of (suc held) (2 * code + bit)) bits held code bit text small.0 refl
+    (λ text e. codes_from bits (suc held) (2 * code + bit) text small.1 e)
+    (λ text e. codes_from bits 0 0 text small.1 e)
     e
 
-bit_small : (count number : ℕ) → All (λ bit. bit < 2) (bits_of count number)
-unfolding bits_of
-bit_small zero number i d lt = absurd (omega arith)
-bit_small (suc count) number zero d lt = omega arith
-bit_small (suc count) number (suc i) d lt = bit_small count number i d (omega arith)
-
-no_bit : All (λ (bit : ℕ). bit < 2) []
-no_bit i d lt = absurd (omega arith)
-
-bits_small : (bytes : List ℕ) → All (λ bit. bit < 2) (bits bytes)
-bits_small [] = no_bit
-bits_small (byte ∷ bytes) = All-append (λ bit. bit < 2) (bits_of 8 byte) (bits bytes) (bit_small 8 byte) (bits_small bytes)
+bits_small : (bytes : List ℕ) → AllBelowBase 2 (bits bytes)
+unfolding bits
+bits_small [] = tt
+bits_small (byte ∷ bytes) = below-append (number_bits 8 byte) (bits bytes) (below-low 8 byte) (bits_small bytes)
 
 to_codes : (text bytes : List ℕ) → huffman_text bytes ≡ Some text → IsHuffmanOf text bytes
-unfolding bits_of
 to_codes text bytes e =
     let read = codes_from (bits bytes) 0 0 text (bits_small bytes) e in
     record { octets = read.octets; padding = read.padding; few = read.few; ones = read.ones; bits_are = read.bits_are }

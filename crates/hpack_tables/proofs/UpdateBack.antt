@@ -7,7 +7,8 @@ use Rattle.hpack_tables.specs.declared.fault.HpackFault.TheVariants.{TableSize}
 use Rattle.hpack_tables.specs.Integers.{integer_at}
 use Rattle.hpack_tables.specs.Tables.{entry_size, Table, resized}
 use Rattle.hpack_tables.specs.Blocks.{update_at, updates_in, block_at}
-use Rattle.hpack_tables.specs.Writing.{digits, block_bytes}
+use Rattle.canon_bytes.specs.Base128.{base_128}
+use Rattle.hpack_tables.specs.Writing.{block_bytes}
 use Rattle.hpack_tables.specs.Laws.{UpdateBack}
 use Rattle.hpack_tables.proofs.ReadBack.{digits_back, fields_back, no_updates}
 
@@ -17,7 +18,7 @@ short_update size rest short =
     let low : (32 + size) % 32 ≡ size = omega arith in
     rw (low, ne_eqb size 31 (omega arith)) refl
 
-long_update : (size : ℕ) (rest : List ℕ) → 31 ≤ size → size ≤ 4096 → integer_at 5 TableSize (63 ∷ digits 10 (size - 31) ++ rest) ≡ Ok (size, rest)
+long_update : (size : ℕ) (rest : List ℕ) → 31 ≤ size → size ≤ 4096 → integer_at 5 TableSize (63 ∷ base_128 10 (size - 31) ++ rest) ≡ Ok (size, rest)
 unfolding integer_at
 long_update size rest le small =
     let whole : 31 + (size - 31) * 1 ≡ size = omega arith in
@@ -41,5 +42,5 @@ pub update_back : UpdateBack
 update_back table size headers small fits =
     elim (cases_lt size 31) [
       | inl short ↦ rw (lt-ltb size 31 short) (back 0 (32 + size) (block_bytes headers) table size headers small fits (omega arith) (short_update size (block_bytes headers) short))
-      | inr le ↦ rw (le-ltb size 31 le) (back 0 63 (digits 10 (size - 31) ++ block_bytes headers) table size headers small fits refl (long_update size (block_bytes headers) le small))
+      | inr le ↦ rw (le-ltb size 31 le) (back 0 63 (base_128 10 (size - 31) ++ block_bytes headers) table size headers small fits refl (long_update size (block_bytes headers) le small))
     ]

@@ -7,7 +7,7 @@ use Rattle.std.proofs.lemmas.List.Sums.{sum_by-cons}
 use Rattle.hpack_tables.specs.declared.header.Header.{Header}
 use Rattle.hpack_tables.specs.declared.fault.HpackFault.{HpackFault}
 use Rattle.hpack_tables.specs.declared.fault.HpackFault.TheVariants.{BadIndex, TableSize, ListTooLong}
-use Rattle.hpack_tables.specs.Reading.{◌>>=◌, unless, found}
+use Rattle.list_types.specs.Results.{◌>>=◌, unless, found}
 use Rattle.hpack_tables.specs.Integers.{integer_at}
 use Rattle.hpack_tables.specs.Strings.{string_at}
 use Rattle.hpack_tables.specs.Tables.{header, entry_size, Table, inserted, resized, entry_at}

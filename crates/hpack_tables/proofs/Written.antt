@@ -5,19 +5,20 @@ use Rattle.std.proofs.Math.Nat.{mod-eq_of_lt}
 use Rattle.hpack_tables.specs.declared.header.Header.{Header}
 use Rattle.hpack_tables.specs.Tables.{Table}
 use Rattle.hpack_tables.specs.Headers.{EndsAtLast, sevens, IsInteger, IsString, IsName, IsLiteral, AreFields}
-use Rattle.hpack_tables.specs.Writing.{digits, length_bytes, string_bytes, header_bytes, block_bytes}
+use Rattle.canon_bytes.specs.Base128.{base_128}
+use Rattle.hpack_tables.specs.Writing.{length_bytes, string_bytes, header_bytes, block_bytes}
 use Rattle.hpack_tables.specs.Laws.{IsShort, WrittenBlock}
-use Rattle.hpack_tables.proofs.Digits.{one_byte, more_bytes, quotient_below}
+use Rattle.canon_bytes.proofs.Base128Steps.{one_byte, more_bytes, quotient_below}
 use Rattle.hpack_tables.proofs.Parts.{ends_later}
 
 record AreDigits (value : ℕ) (bytes : List ℕ) : Type 0 where
   pub ends : EndsAtLast bytes
   pub value_is : value ≡ sevens bytes
 
-one_digit : (k value : ℕ) → value < 128 → AreDigits value (digits (suc k) value)
+one_digit : (k value : ℕ) → value < 128 → AreDigits value (base_128 (suc k) value)
 one_digit k value lt = rw (one_byte k value lt) (record { ends = lt; value_is = omega (arith, mod-eq_of_lt lt) })
 
-are_digits : (k value : ℕ) → value < 128 ^ suc k → AreDigits value (digits (suc k) value)
+are_digits : (k value : ℕ) → value < 128 ^ suc k → AreDigits value (base_128 (suc k) value)
 are_digits zero value lt = one_digit 0 value (omega arith)
 are_digits (suc k) value lt =
     elim (cases_lt value 128) [
@@ -26,7 +27,7 @@ are_digits (suc k) value lt =
           let high = are_digits k (value / 128) (quotient_below k value lt) in
           let low : (value % 128 + 128) % 128 ≡ value % 128 = omega arith in
           rw (more_bytes (suc k) value le) (record {
-            ends = ends_later (value % 128 + 128) (digits (suc k) (value / 128)) (omega arith) high.ends;
+            ends = ends_later (value % 128 + 128) (base_128 (suc k) (value / 128)) (omega arith) high.ends;
             value_is = omega (arith, high.value_is, low);
           })
     ]

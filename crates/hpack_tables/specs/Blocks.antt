@@ -1,11 +1,11 @@
 -- Header blocks (RFC 7541, sections 3 and 6).
 use Rattle.std.specs.Prelude.{◌≡◌, ℕ, zero, suc, ◌-◌, ◌/◌, ◌==◌, nat_lt, nat_le, Bool, if◌then◌else◌, List, [], ◌∷◌, length, slice_index, Option, Some, None, Result, Ok, Err}
+use Rattle.list_types.specs.declared.memory.Refusal.{Refusal}
+use Rattle.list_types.specs.declared.memory.Refusal.TheVariants as refusals
+use Rattle.list_types.specs.Results.{◌>>=◌, unless, found}
 use Rattle.hpack_tables.specs.declared.fault.HpackFault.{HpackFault}
 use Rattle.hpack_tables.specs.declared.fault.HpackFault.TheVariants.{BadIndex, TableSize, ListTooLong}
-use Rattle.hpack_tables.specs.declared.fault.BlockError.{BlockError}
-use Rattle.hpack_tables.specs.declared.fault.BlockError.TheVariants as errors
 use Rattle.hpack_tables.specs.declared.header.Header.{Header}
-use Rattle.hpack_tables.specs.Reading.{◌>>=◌, unless, found}
 use Rattle.hpack_tables.specs.Integers.{integer_at}
 use Rattle.hpack_tables.specs.Strings.{string_at}
 use Rattle.hpack_tables.specs.Tables.{header, entry_size, Table, inserted, resized, entry_at}
@@ -83,11 +83,11 @@ block_at table bytes = do
 -- a decoder: its table, and why it reads no more, if it does not
 pub record DecoderState : Type 0 where
   pub table : Table
-  pub broken : Option BlockError
+  pub broken : Option (Refusal HpackFault)
 
 -- What a decoder answers to a block: its headers, or the first fault, and then the same again to each block. After want of memory it reads no more either.
-abbrev pub IsAnswer : Option BlockError → DecoderState → DecoderState → List ℕ → Result (List Header) BlockError → Type 0
+abbrev pub IsAnswer : Option (Refusal HpackFault) → DecoderState → DecoderState → List ℕ → Result (List Header) (Refusal HpackFault) → Type 0
 IsAnswer (Some error) old new bytes result = (result ≡ Err error) × (new ≡ old)
 IsAnswer None old new bytes (Ok headers) = (block_at old.table bytes ≡ Ok (headers, new.table)) × (new.broken ≡ None)
-IsAnswer None old new bytes (Err errors.NoMemory) = new.broken ≡ Some errors.NoMemory
-IsAnswer None old new bytes (Err (errors.Broken fault)) = (block_at old.table bytes ≡ Err fault) × (new.broken ≡ Some (errors.Broken fault))
+IsAnswer None old new bytes (Err refusals.NoMemory) = new.broken ≡ Some refusals.NoMemory
+IsAnswer None old new bytes (Err (refusals.For fault)) = (block_at old.table bytes ≡ Err fault) × (new.broken ≡ Some (refusals.For fault))

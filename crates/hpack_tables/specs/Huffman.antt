@@ -1,8 +1,9 @@
 -- Texts in the Huffman code (RFC 7541, section 5.2 and appendix B).
 use Rattle.std.specs.Prelude.{◌≡◌, ℕ, ◌+◌, ◌<◌, List, ◌++◌, length, take, slice_index, All}
 use Rattle.std.specs.List.{flat_map}
+use Rattle.canon_bytes.specs.Bits.{bits}
+use Rattle.pkt_bits.specs.Field.{number_bits}
 use Rattle.hpack_tables.specs.Code.{code_lengths, symbols_from, first_code}
-use Rattle.hpack_tables.specs.Strings.{bits_of, bits}
 
 -- the number of a symbol's code: the codes of a length follow one another, as their symbols do
 abbrev pub code_number : ℕ → ℕ
@@ -10,7 +11,7 @@ code_number symbol = first_code (slice_index code_lengths symbol) + length (symb
 
 -- the code of a symbol, the most significant bit first
 abbrev pub code_of : ℕ → List ℕ
-code_of symbol = bits_of (slice_index code_lengths symbol) (code_number symbol)
+code_of symbol = number_bits (slice_index code_lengths symbol) (code_number symbol)
 
 -- Bytes are a text in the Huffman code: the codes of its octets, and then padding of fewer than eight ones.
 pub record IsHuffmanOf (text bytes : List ℕ) : Type 0 where

@@ -2,7 +2,7 @@
 use Rattle.std.specs.Prelude.{ℕ, ◌+◌, ◌-◌, ◌*◌, ◌%◌, ◌^◌, ◌==◌, nat_lt, if◌then◌else◌, List, [], ◌∷◌, Result, Ok, Err}
 use Rattle.hpack_tables.specs.declared.fault.HpackFault.{HpackFault}
 use Rattle.hpack_tables.specs.declared.fault.HpackFault.TheVariants.{Truncated}
-use Rattle.hpack_tables.specs.Reading.{unless}
+use Rattle.list_types.specs.Results.{unless}
 
 -- An integer that goes on, of which value is read so far, and the bytes after it. The next seven bits count unit each. At the byte where it passes the greatest number there is this fault.
 unfoldable pub integer_from : HpackFault → ℕ → ℕ → List ℕ → Result (ℕ × List ℕ) HpackFault

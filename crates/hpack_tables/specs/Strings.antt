@@ -1,19 +1,11 @@
 -- String literals (RFC 7541, section 5.2).
-use Rattle.std.specs.Prelude.{ℕ, zero, suc, ◌+◌, ◌*◌, ◌/◌, ◌%◌, ◌^◌, ◌&&◌, ◌==◌, nat_lt, nat_le, Bool, if◌then◌else◌, List, [], ◌∷◌, ◌++◌, length, take, drop, slice_index, Option, Some, None, Result, Ok, flat_map}
+use Rattle.std.specs.Prelude.{ℕ, suc, ◌+◌, ◌*◌, ◌^◌, ◌&&◌, ◌==◌, nat_lt, nat_le, Bool, if◌then◌else◌, List, [], ◌∷◌, ◌++◌, length, take, drop, slice_index, Option, Some, None, Result, Ok}
+use Rattle.list_types.specs.Results.{◌>>=◌, unless, found}
+use Rattle.canon_bytes.specs.Bits.{bits}
 use Rattle.hpack_tables.specs.declared.fault.HpackFault.{HpackFault}
 use Rattle.hpack_tables.specs.declared.fault.HpackFault.TheVariants.{BadHuffman, Truncated}
 use Rattle.hpack_tables.specs.Code.{symbol_of}
-use Rattle.hpack_tables.specs.Reading.{◌>>=◌, unless, found}
 use Rattle.hpack_tables.specs.Integers.{integer_at}
-
--- the low bits of a number, the most significant first
-unfoldable pub bits_of : ℕ → ℕ → List ℕ
-bits_of zero number = []
-bits_of (suc count) number = (number / 2 ^ count % 2) ∷ bits_of count number
-
--- the bits of bytes
-abbrev pub bits : List ℕ → List ℕ
-bits bytes = flat_map (λ byte. bits_of 8 byte) bytes
 
 -- octets before a text, if there is one
 abbrev pub after : List ℕ → Option (List ℕ) → Option (List ℕ)

@@ -1,13 +1,15 @@
 -- Bits that stand at the front of others, as a number.
 use Rattle.std.specs.Prelude.{◌≡◌, ℕ, ◌-◌, ◌^◌, ◌<◌, ◌≤◌, List, ◌++◌, Option, Some, None}
+use Rattle.list_types.specs.declared.memory.Refusal.{Refusal}
+use Rattle.list_types.specs.declared.memory.Refusal.TheVariants as refusals
+use Rattle.pkt_bits.specs.Field.{number_bits}
+use Rattle.hpack_tables.specs.declared.fault.HpackFault.{HpackFault}
 use Rattle.hpack_tables.specs.declared.fault.HpackFault.TheVariants.{BadHuffman}
-use Rattle.hpack_tables.specs.declared.fault.BlockError.{BlockError}
-use Rattle.hpack_tables.specs.declared.fault.BlockError.TheVariants as errors
-use Rattle.hpack_tables.specs.Strings.{bits_of, after, with_symbol, text_from}
+use Rattle.hpack_tables.specs.Strings.{after, with_symbol, text_from}
 
 -- the octets of so many bits of a number and of the bits that follow
 abbrev pub text_of : ℕ → ℕ → List ℕ → Option (List ℕ)
-text_of count number rest = text_from 0 0 (bits_of count number ++ rest)
+text_of count number rest = text_from 0 0 (number_bits count number ++ rest)
 
 -- these bits hold no whole code
 abbrev pub NoSymbol : ℕ → ℕ → Type 0
@@ -37,6 +39,6 @@ pub record AreDrained (old : List ℕ) (count number : ℕ) (new : List ℕ) (le
   pub drained : NoSymbol left_count left_number
 
 -- want of memory, or no text begins with these octets and these bits
-abbrev pub IsRefused : List ℕ → ℕ → ℕ → BlockError → Type 0
-IsRefused old count number errors.NoMemory = Unit {0}
-IsRefused old count number (errors.Broken fault) = (fault ≡ BadHuffman) × ((rest : List ℕ) → after old (text_of count number rest) ≡ None)
+abbrev pub IsRefused : List ℕ → ℕ → ℕ → Refusal HpackFault → Type 0
+IsRefused old count number refusals.NoMemory = Unit {0}
+IsRefused old count number (refusals.For fault) = (fault ≡ BadHuffman) × ((rest : List ℕ) → after old (text_of count number rest) ≡ None)

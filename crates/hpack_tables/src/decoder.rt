@@ -2,11 +2,11 @@
 ghost use Rattle.std.specs.Prelude.{◌≡◌, [], None, IfOk};
 ghost use Rattle.hpack_tables.specs.Blocks.{IsAnswer};
 
-use crate::fault::BlockError;
+use crate::fault::HpackFault;
 use crate::header::Header;
 use crate::reading::block;
 use crate::table::DynamicTable;
-use list_types::{List, NoMemory};
+use list_types::{List, NoMemory, Refusal};
 use std::alloc::Global;
 use std::marker::Model;
 
@@ -16,7 +16,7 @@ use std::marker::Model;
 pub struct Decoder {
     alloc: Global,
     table: DynamicTable,
-    broken: Option<BlockError>,
+    broken: Option<Refusal<HpackFault>>,
 }
 
 impl Model for Decoder {
@@ -41,7 +41,7 @@ impl Decoder {
 
     /// The headers of a whole block, or the first fault in its order. What was read before a fault
     /// is lost, so a fault is answered again to each later block, and so is want of memory.
-    pub fn block(&mut self, bytes: &[u8]) -> Result<List<Header>, BlockError>
+    pub fn block(&mut self, bytes: &[u8]) -> Result<List<Header>, Refusal<HpackFault>>
         ensures { IsAnswer self.old.broken self.old self.new bytes.now result }
     {
         if let Some(error) = self.broken {

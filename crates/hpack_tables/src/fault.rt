@@ -1,9 +1,8 @@
 //! Why a header block is not read.
 ghost use Rattle.std.specs.Prelude.{◌≡◌};
-ghost use Rattle.hpack_tables.specs.declared.fault.BlockError.TheVariants as block_error;
+ghost use Rattle.list_types.specs.declared.memory.Refusal.TheVariants as refusals;
 
-use list_types::NoMemory;
-use std::alloc::{AllocError, AllocFailed};
+use list_types::Refusal;
 
 /// What is wrong with a header block: the first fault from left to right.
 #[derive(Clone, Copy)]
@@ -20,50 +19,18 @@ pub enum HpackFault {
     ListTooLong = 5,
 }
 
-/// Why a header block is not read.
-#[derive(Clone, Copy)]
-pub enum BlockError {
-    NoMemory,
-    /// The block breaks a rule.
-    Broken(HpackFault),
-}
+pub(crate) const BAD_HUFFMAN: Refusal<HpackFault> = Refusal::For(HpackFault::BadHuffman);
 
-pub(crate) const BAD_HUFFMAN: BlockError = BlockError::Broken(HpackFault::BadHuffman);
+pub(crate) const TABLE_SIZE: Refusal<HpackFault> = Refusal::For(HpackFault::TableSize);
 
-pub(crate) const TABLE_SIZE: BlockError = BlockError::Broken(HpackFault::TableSize);
+pub(crate) const TRUNCATED: Refusal<HpackFault> = Refusal::For(HpackFault::Truncated);
 
-pub(crate) const TRUNCATED: BlockError = BlockError::Broken(HpackFault::Truncated);
+pub(crate) const LIST_TOO_LONG: Refusal<HpackFault> = Refusal::For(HpackFault::ListTooLong);
 
-pub(crate) const LIST_TOO_LONG: BlockError = BlockError::Broken(HpackFault::ListTooLong);
+impl From<HpackFault> for Refusal<HpackFault> {
+    ghost from_gives = { λ fault e. e ≡ refusals.For fault };
 
-impl From<HpackFault> for BlockError {
-    ghost from_gives = { λ fault e. e ≡ block_error.Broken fault };
-
-    fn from(fault: HpackFault) -> BlockError {
-        BlockError::Broken(fault)
-    }
-}
-
-impl From<NoMemory> for BlockError {
-    ghost from_gives = { λ _ e. e ≡ block_error.NoMemory };
-
-    fn from(_: NoMemory) -> BlockError {
-        BlockError::NoMemory
-    }
-}
-
-impl From<AllocError> for BlockError {
-    ghost from_gives = { λ _ e. e ≡ block_error.NoMemory };
-
-    fn from(_: AllocError) -> BlockError {
-        BlockError::NoMemory
-    }
-}
-
-impl<T: Drop> From<AllocFailed<T>> for BlockError {
-    ghost from_gives = { λ _ e. e ≡ block_error.NoMemory };
-
-    fn from(_failed: AllocFailed<T>) -> BlockError {
-        BlockError::NoMemory
+    fn from(fault: HpackFault) -> Refusal<HpackFault> {
+        Refusal::For(fault)
     }
 }

@@ -1,6 +1,7 @@
 //! Integers with a prefix (RFC 7541, section 5.1).
 ghost use Rattle.std.specs.Prelude.{◌≡◌, ◌≤◌};
-ghost use Rattle.hpack_tables.specs.Reading.{GivesExactly, byte_at};
+ghost use Rattle.list_types.specs.Results.{GivesExactly};
+ghost use Rattle.hpack_tables.specs.Reading.{byte_at};
 ghost use Rattle.hpack_tables.specs.Integers.{integer_from, integer_at};
 
 use crate::fault::HpackFault;

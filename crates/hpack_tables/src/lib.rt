@@ -14,6 +14,6 @@ mod table;
 mod writing;
 
 pub use decoder::Decoder;
-pub use fault::{BlockError, HpackFault};
+pub use fault::HpackFault;
 pub use header::Header;
 pub use writing::{encode, encode_size_update};

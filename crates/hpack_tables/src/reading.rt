@@ -1,14 +1,14 @@
 //! Reading the headers of a block (RFC 7541, sections 3 and 6).
 ghost use Rattle.std.specs.Prelude.{◌≡◌, ◌≤◌, length, Ok};
-ghost use Rattle.hpack_tables.specs.Reading.{Gives, GivesExactly};
+ghost use Rattle.list_types.specs.Results.{Gives, GivesExactly};
 ghost use Rattle.hpack_tables.specs.Blocks.{indexed_at, name_at, literal_at, added, field_at, fields_in, is_update, update_at, updates_in, block_at};
 
-use crate::fault::{BlockError, HpackFault, LIST_TOO_LONG, TABLE_SIZE};
+use crate::fault::{HpackFault, LIST_TOO_LONG, TABLE_SIZE};
 use crate::header::{Header, copied, copy};
 use crate::integer::integer;
 use crate::strings::{first, string};
 use crate::table::{DynamicTable, MAX_SIZE, entry_size};
-use list_types::{ByteList, List};
+use list_types::{ByteList, List, Refusal};
 use std::alloc::Global;
 
 // How large the headers of a block may be together.
@@ -19,7 +19,7 @@ fn indexed<'a>(
     alloc: Global,
     table: &DynamicTable,
     bytes: &'a [u8],
-) -> Result<(Header, &'a [u8]), BlockError>
+) -> Result<(Header, &'a [u8]), Refusal<HpackFault>>
     ensures { Gives (λ x. (x.0, x.1.now)) result (indexed_at table.now bytes.now) }
 {
     let (index, rest) = integer(bytes, 7, HpackFault::BadIndex)?;
@@ -35,7 +35,7 @@ fn name<'a>(
     table: &DynamicTable,
     bytes: &'a [u8],
     prefix: u32,
-) -> Result<(ByteList, &'a [u8]), BlockError>
+) -> Result<(ByteList, &'a [u8]), Refusal<HpackFault>>
     requires { prefix ≤ 7 }
     ensures { Gives (λ x. (x.0, x.1.now)) result (name_at prefix table.now bytes.now) }
 {
@@ -53,7 +53,7 @@ fn literal<'a>(
     table: &DynamicTable,
     bytes: &'a [u8],
     prefix: u32,
-) -> Result<(Header, &'a [u8]), BlockError>
+) -> Result<(Header, &'a [u8]), Refusal<HpackFault>>
     requires { prefix ≤ 7 }
     ensures { Gives (λ x. (x.0, x.1.now)) result (literal_at prefix table.now bytes.now) }
 {
@@ -67,7 +67,7 @@ fn indexing<'a>(
     alloc: Global,
     table: &mut DynamicTable,
     bytes: &'a [u8],
-) -> Result<(Header, &'a [u8]), BlockError>
+) -> Result<(Header, &'a [u8]), Refusal<HpackFault>>
     ensures { Gives (λ x. (x.0, table.new, x.1.now)) result (added table.old (literal_at 6 table.old bytes.now)) }
 {
     let (header, rest) = literal(alloc, table, bytes, 6)?;
@@ -81,7 +81,7 @@ fn field<'a>(
     alloc: Global,
     table: &mut DynamicTable,
     bytes: &'a [u8],
-) -> Result<(Header, &'a [u8]), BlockError>
+) -> Result<(Header, &'a [u8]), Refusal<HpackFault>>
     ensures { Gives (λ x. (x.0, table.new, x.1.now)) result (field_at table.old bytes.now) }
 {
     let first = first(bytes);
@@ -97,7 +97,11 @@ fn field<'a>(
     literal(alloc, table, bytes, 4)
 }
 
-fn fields(alloc: Global, table: &mut DynamicTable, bytes: &[u8]) -> Result<List<Header>, BlockError>
+fn fields(
+    alloc: Global,
+    table: &mut DynamicTable,
+    bytes: &[u8],
+) -> Result<List<Header>, Refusal<HpackFault>>
     ensures { Gives (λ x. (x, table.new)) result (fields_in (length bytes.now) table.old 65536 bytes.now) }
 {
     let mut headers = List::new(alloc);
@@ -156,7 +160,7 @@ pub(crate) fn block(
     alloc: Global,
     table: &mut DynamicTable,
     bytes: &[u8],
-) -> Result<List<Header>, BlockError>
+) -> Result<List<Header>, Refusal<HpackFault>>
     ensures { Gives (λ x. (x, table.new)) result (block_at table.old bytes.now) }
 {
     let rest = updates(table, bytes)?;

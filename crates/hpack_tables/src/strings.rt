@@ -1,15 +1,15 @@
 //! String literals (RFC 7541, section 5.2).
 ghost use Rattle.std.specs.Prelude.{◌≡◌, ◌≤◌, ◌<◌, ◌^◌, IfOk, IfErr, slice_index};
-ghost use Rattle.hpack_tables.specs.Reading.{Gives, found};
+ghost use Rattle.list_types.specs.Results.{Gives, found};
 ghost use Rattle.hpack_tables.specs.Strings.{huffman_text, octets, string_at};
 ghost use Rattle.hpack_tables.specs.declared.fault.HpackFault.TheVariants as faults;
 ghost use Rattle.hpack_tables.specs.Windows.{IsFront, AreDrained, IsRefused};
 
 use crate::code::{EOS, LONGEST, symbol_of};
-use crate::fault::{BAD_HUFFMAN, BlockError, HpackFault, TRUNCATED};
+use crate::fault::{BAD_HUFFMAN, HpackFault, TRUNCATED};
 use crate::header::copied;
 use crate::integer::integer;
-use list_types::ByteList;
+use list_types::{ByteList, Refusal};
 use std::alloc::Global;
 
 // Bits that are read and not yet decoded: how many, and their number.
@@ -38,7 +38,7 @@ fn first_symbol(bits: Bits) -> Option<(u16, u32)>
 }
 
 // Decodes whole codes, and gives the bits that are left.
-fn drain(text: &mut ByteList, bits: Bits) -> Result<Bits, BlockError>
+fn drain(text: &mut ByteList, bits: Bits) -> Result<Bits, Refusal<HpackFault>>
     requires few { bits.count ≤ 63 }
     requires fits { bits.number < 2 ^ bits.count }
     ensures ok { IfOk result (λ left. AreDrained text.old bits.count bits.number text.new left.count left.number) }
@@ -56,7 +56,7 @@ fn drain(text: &mut ByteList, bits: Bits) -> Result<Bits, BlockError>
     Ok(left)
 }
 
-fn huffman(alloc: Global, bytes: &[u8]) -> Result<ByteList, BlockError>
+fn huffman(alloc: Global, bytes: &[u8]) -> Result<ByteList, Refusal<HpackFault>>
     ensures { Gives (λ x. x) result (found faults.BadHuffman (huffman_text bytes.now)) }
 {
     // No code is shorter than five bits.
@@ -85,7 +85,7 @@ fn huffman(alloc: Global, bytes: &[u8]) -> Result<ByteList, BlockError>
     Ok(text)
 }
 
-fn octets(alloc: Global, is_huffman: bool, bytes: &[u8]) -> Result<ByteList, BlockError>
+fn octets(alloc: Global, is_huffman: bool, bytes: &[u8]) -> Result<ByteList, Refusal<HpackFault>>
     ensures { Gives (λ x. x) result (octets is_huffman bytes.now) }
 {
     if is_huffman {
@@ -107,7 +107,7 @@ pub(crate) fn first(bytes: &[u8]) -> u8
 
 /// A string, and the bytes after it.
 #[tactic(auto, unfolding(crate::specs::Strings::string_at))]
-pub(crate) fn string(alloc: Global, bytes: &[u8]) -> Result<(ByteList, &[u8]), BlockError>
+pub(crate) fn string(alloc: Global, bytes: &[u8]) -> Result<(ByteList, &[u8]), Refusal<HpackFault>>
     ensures { Gives (λ x. (x.0, x.1.now)) result (string_at bytes.now) }
 {
     let (size, rest) = integer(bytes, 7, HpackFault::Truncated)?;

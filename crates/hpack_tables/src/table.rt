@@ -1,13 +1,13 @@
 //! The dynamic table (RFC 7541, section 4).
 ghost use Rattle.std.specs.Prelude.{◌≡◌, ◌≤◌, [], sum_by, Ok, IfOk};
-ghost use Rattle.hpack_tables.specs.Reading.{Gives, GivesExactly, found};
+ghost use Rattle.list_types.specs.Results.{Gives, GivesExactly, found};
 ghost use Rattle.hpack_tables.specs.Tables.{header, entry_size, fitting, inserted, resized, entry_at};
 ghost use Rattle.hpack_tables.specs.declared.fault.HpackFault.TheVariants as faults;
 
-use crate::fault::{BlockError, HpackFault};
+use crate::fault::HpackFault;
 use crate::header::{Header, copy};
 use crate::static_table::{STATIC_ENTRIES, static_entry};
-use list_types::{List, NoMemory};
+use list_types::{List, NoMemory, Refusal};
 use std::alloc::Global;
 use std::collections::VecDeque;
 use std::marker::Model;
@@ -70,7 +70,7 @@ impl DynamicTable {
     }
 
     /// Adds an entry, for which the oldest make room.
-    pub(crate) fn insert(&mut self, entry: Header) -> Result<(), BlockError>
+    pub(crate) fn insert(&mut self, entry: Header) -> Result<(), Refusal<HpackFault>>
         ensures { Gives (λ _. self.new) result (Ok (inserted entry self.old)) }
     {
         let size = entry_size(&entry);

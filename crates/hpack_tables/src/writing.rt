@@ -1,7 +1,8 @@
 //! Writing header blocks.
 ghost use Rattle.std.specs.Prelude.{◌≡◌, ◌≤◌, ◌++◌, length, take, OnOk, IfOk};
 ghost use Rattle.std.specs.List.{flat_map};
-ghost use Rattle.hpack_tables.specs.Writing.{digits, length_bytes, string_bytes, header_bytes, block_bytes, update_bytes};
+ghost use Rattle.canon_bytes.specs.Base128.{base_128};
+ghost use Rattle.hpack_tables.specs.Writing.{length_bytes, string_bytes, header_bytes, block_bytes, update_bytes};
 
 use crate::header::Header;
 use list_types::{ByteList, NoMemory};
@@ -14,7 +15,7 @@ const WITHOUT_INDEXING: u8 = 0;
 const PREFIX: u64 = 127;
 
 fn push_digits(bytes: &mut Vec<u8>, value: u64) -> Result<(), NoMemory>
-    ensures { OnOk result (bytes.new.items ≡ bytes.old.items ++ digits 10 value) }
+    ensures { OnOk result (bytes.new.items ≡ bytes.old.items ++ base_128 10 value) }
 {
     let mut left = value;
     while left >= 128 {

@@ -4,7 +4,8 @@ use Rattle.std.proofs.lemmas.List.Elements.{All-nil, All-cons}
 use Rattle.serde_json.specs.Data.{Data, null, boolean, number, string, array, object, Items, no_items, item}
 use Rattle.serde_json.specs.Find.{get, at, as_array}
 use Rattle.json_shapes.specs.declared.arrays.Only.{Only}
-use Rattle.json_shapes.specs.Shapes.{◌>>=◌, each_item, list_of, required, nullable, if_given, optional, or_empty, list_or_empty}
+use Rattle.list_types.specs.Options.{◌>>=◌}
+use Rattle.json_shapes.specs.Shapes.{each_item, list_of, required, nullable, if_given, optional, or_empty, list_or_empty}
 use Rattle.json_shapes.specs.Arrays.{item_count, item_at, of_count, first_of, only_of}
 
 -- all that a reader reads keeps P

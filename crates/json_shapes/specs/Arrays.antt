@@ -3,7 +3,7 @@ use Rattle.std.specs.Prelude.{ℕ, suc, ◌==◌, if◌then◌else◌, Option, S
 use Rattle.serde_json.specs.Data.{Data, Items, no_items, item}
 use Rattle.serde_json.specs.Find.{at, as_array}
 use Rattle.json_shapes.specs.declared.arrays.Only.{Only}
-use Rattle.json_shapes.specs.Shapes.{◌>>=◌}
+use Rattle.list_types.specs.Options.{◌>>=◌}
 
 -- how many items an array has
 abbrev pub count_of : Items → ℕ

@@ -1,16 +1,11 @@
 -- Shapes of JSON values: what is read of a value of a shape, and nothing of another value.
 use Rattle.std.specs.Prelude.{◌≡◌, ℕ, Bool, true, false, if◌then◌else◌, unwrap_or, option_map, List, [], ◌∷◌, Result, Ok, Err, Option, Some, None, ⊤}
+use Rattle.list_types.specs.Options.{◌>>=◌}
 use Rattle.serde_json.specs.Data.{Data, null, boolean, number, string, array, object, Items, no_items, item}
 use Rattle.serde_json.specs.Find.{get, as_array, as_number, as_u64}
 use Rattle.json_shapes.specs.declared.errors.OtherShape.{OtherShape}
-use Rattle.json_shapes.specs.declared.errors.ShapeError.{ShapeError}
-use Rattle.json_shapes.specs.declared.errors.ShapeError.TheVariants.{NoMemory, Shape}
-
-infixl 10 ◌>>=◌
--- what is read on where something was read, or else nothing
-abbrev pub ◌>>=◌ : {A B : Type 0} → Option A → (A → Option B) → Option B
-(Some x) >>= f = f x
-None >>= f = None
+use Rattle.list_types.specs.declared.memory.Refusal.{Refusal}
+use Rattle.list_types.specs.declared.memory.Refusal.TheVariants.{NoMemory, For}
 
 -- each item, or nothing where one is of another shape
 abbrev pub each_item : {A : Type 0} → (Data → Option A) → Items → Option (List A)
@@ -92,12 +87,12 @@ unfoldable pub filled : List ℕ → Data → Option Bool
 filled name d = none_or_array (get name d) >>= λ _. Some (has_items name d)
 
 -- why a reader refuses: there is no memory, or the shape is another one
-abbrev pub Refuses : {A : Type 0} → ShapeError → Option A → Type 0
+abbrev pub Refuses : {A : Type 0} → Refusal OtherShape → Option A → Type 0
 Refuses NoMemory read = Unit {0}
-Refuses Shape read = read ≡ None
+Refuses (For _) read = read ≡ None
 
 -- the answer is what is read, unless there is no memory
-abbrev pub Reads : {A : Type 0} → Result A ShapeError → Option A → Type 0
+abbrev pub Reads : {A : Type 0} → Result A (Refusal OtherShape) → Option A → Type 0
 Reads (Ok x) read = read ≡ Some x
 Reads (Err e) read = Refuses e read
 
@@ -107,6 +102,6 @@ ReadsExactly (Ok x) read = read ≡ Some x
 ReadsExactly (Err _) read = read ≡ None
 
 -- what stands behind the call is what is read, unless there is no memory
-abbrev pub Extends : {A : Type 0} → Result ⊤ ShapeError → A → Option A → Type 0
+abbrev pub Extends : {A : Type 0} → Result ⊤ (Refusal OtherShape) → A → Option A → Type 0
 Extends (Ok _) new read = read ≡ Some new
 Extends (Err e) new read = Refuses e read

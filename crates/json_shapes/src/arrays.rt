@@ -4,8 +4,9 @@ ghost use Rattle.serde_json.specs.View.{view};
 ghost use Rattle.json_shapes.specs.Shapes.{ReadsExactly, Reads};
 ghost use Rattle.json_shapes.specs.Arrays.{item_count, item_at, of_count, only_of};
 
-use crate::errors::{OtherShape, ShapeError};
+use crate::errors::OtherShape;
 use crate::shapes::FromJson;
+use list_types::Refusal;
 use serde_json::Value;
 use std::alloc::Global;
 
@@ -22,12 +23,16 @@ pub fn item_count(value: &Value) -> Result<usize, OtherShape>
 
 /// An item of an array.
 #[tactic(auto, unfolding(crate::specs::Arrays::item_at))]
-pub fn item_at<T: FromJson>(alloc: Global, value: &Value, place: usize) -> Result<T, ShapeError>
+pub fn item_at<T: FromJson>(
+    alloc: Global,
+    value: &Value,
+    place: usize,
+) -> Result<T, Refusal<OtherShape>>
     ensures { Reads result (item_at T.shape place (view value.now)) }
 {
     match value.get(place) {
         Some(item) => T::from_json(alloc, item),
-        None => Err(ShapeError::Shape),
+        None => Err(Refusal::For(OtherShape)),
     }
 }
 
@@ -52,7 +57,7 @@ impl<T: FromJson> FromJson for Only<T> {
     ghost shape = { only_of T.shape };
 
     #[tactic(auto, unfolding(crate::specs::Arrays::only_of))]
-    fn from_json(alloc: Global, value: &Value) -> Result<Only<T>, ShapeError> {
+    fn from_json(alloc: Global, value: &Value) -> Result<Only<T>, Refusal<OtherShape>> {
         let count = item_count(value)?;
         of_count(1, count)?;
         let only = item_at(alloc, value, 0)?;

@@ -1,50 +1,17 @@
 //! Why nothing is read of a JSON value.
 ghost use Rattle.std.specs.Prelude.{◌≡◌};
-ghost use Rattle.json_shapes.specs.declared.errors.ShapeError.TheVariants as shape_error;
+ghost use Rattle.list_types.specs.declared.memory.Refusal.TheVariants as refusals;
 
-use list_types::NoMemory;
-use std::alloc::{AllocError, AllocFailed};
-
-/// A member is missing or of another shape, unless there was no memory.
-#[derive(Clone, Copy, Debug)]
-pub enum ShapeError {
-    NoMemory,
-    Shape,
-}
+use list_types::Refusal;
 
 /// A member is missing or of another shape.
 #[derive(Clone, Copy, Debug)]
 pub struct OtherShape;
 
-impl From<OtherShape> for ShapeError {
-    ghost from_gives = { λ _ e. e ≡ shape_error.Shape };
+impl From<OtherShape> for Refusal<OtherShape> {
+    ghost from_gives = { λ shape e. e ≡ refusals.For shape };
 
-    fn from(_: OtherShape) -> ShapeError {
-        ShapeError::Shape
-    }
-}
-
-impl From<NoMemory> for ShapeError {
-    ghost from_gives = { λ _ e. e ≡ shape_error.NoMemory };
-
-    fn from(_: NoMemory) -> ShapeError {
-        ShapeError::NoMemory
-    }
-}
-
-impl From<AllocError> for ShapeError {
-    ghost from_gives = { λ _ e. e ≡ shape_error.NoMemory };
-
-    fn from(_: AllocError) -> ShapeError {
-        ShapeError::NoMemory
-    }
-}
-
-impl<T: Drop> From<AllocFailed<T>> for ShapeError {
-    ghost from_gives = { λ _ e. e ≡ shape_error.NoMemory };
-
-    fn from(failed: AllocFailed<T>) -> ShapeError {
-        drop(failed);
-        ShapeError::NoMemory
+    fn from(shape: OtherShape) -> Refusal<OtherShape> {
+        Refusal::For(shape)
     }
 }

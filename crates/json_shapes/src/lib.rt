@@ -5,4 +5,4 @@ pub mod arrays;
 mod errors;
 pub mod shapes;
 
-pub use errors::{OtherShape, ShapeError};
+pub use errors::OtherShape;

@@ -6,8 +6,8 @@ ghost use Rattle.serde_json.specs.Find.{as_null, as_str, as_bool};
 ghost use Rattle.serde_json.specs.View.{view, items_view};
 ghost use Rattle.json_shapes.specs.Shapes.{ReadsExactly, Reads, each_item, list_of, natural_of, required, nullable, optional, list_or_empty, unless_absent, list_unless_absent, nothing_in, has_items, filled};
 
-use crate::errors::{OtherShape, ShapeError};
-use list_types::{List, Text};
+use crate::errors::OtherShape;
+use list_types::{List, Refusal, Text};
 use serde_json::Value;
 use std::alloc::Global;
 
@@ -15,18 +15,18 @@ use std::alloc::Global;
 pub trait FromJson: Drop {
     ghost shape: { Data → spec.Option Self };
 
-    fn from_json(alloc: Global, value: &Value) -> Result<Self, ShapeError>
+    fn from_json(alloc: Global, value: &Value) -> Result<Self, Refusal<OtherShape>>
         ensures { Reads result (shape (view value.now)) };
 }
 
 impl FromJson for () {
     ghost shape = { as_null };
 
-    fn from_json(_alloc: Global, value: &Value) -> Result<(), ShapeError> {
+    fn from_json(_alloc: Global, value: &Value) -> Result<(), Refusal<OtherShape>> {
         if value.is_null() {
             Ok(())
         } else {
-            Err(ShapeError::Shape)
+            Err(Refusal::For(OtherShape))
         }
     }
 }
@@ -34,10 +34,10 @@ impl FromJson for () {
 impl FromJson for bool {
     ghost shape = { as_bool };
 
-    fn from_json(_alloc: Global, value: &Value) -> Result<bool, ShapeError> {
+    fn from_json(_alloc: Global, value: &Value) -> Result<bool, Refusal<OtherShape>> {
         match value.as_bool() {
             Some(truth) => Ok(truth),
-            None => Err(ShapeError::Shape),
+            None => Err(Refusal::For(OtherShape)),
         }
     }
 }
@@ -45,10 +45,10 @@ impl FromJson for bool {
 impl FromJson for u64 {
     ghost shape = { natural_of };
 
-    fn from_json(_alloc: Global, value: &Value) -> Result<u64, ShapeError> {
+    fn from_json(_alloc: Global, value: &Value) -> Result<u64, Refusal<OtherShape>> {
         match value.as_u64() {
             Some(number) => Ok(number),
-            None => Err(ShapeError::Shape),
+            None => Err(Refusal::For(OtherShape)),
         }
     }
 }
@@ -56,18 +56,18 @@ impl FromJson for u64 {
 impl FromJson for Text {
     ghost shape = { as_str };
 
-    fn from_json(alloc: Global, value: &Value) -> Result<Text, ShapeError> {
+    fn from_json(alloc: Global, value: &Value) -> Result<Text, Refusal<OtherShape>> {
         match value.as_str() {
             Some(text) => {
                 let text = String::from_str(alloc, text)?;
                 Ok(Text::from_string(text))
             }
-            None => Err(ShapeError::Shape),
+            None => Err(Refusal::For(OtherShape)),
         }
     }
 }
 
-fn each_item<T: FromJson>(alloc: Global, values: &[Value]) -> Result<List<T>, ShapeError>
+fn each_item<T: FromJson>(alloc: Global, values: &[Value]) -> Result<List<T>, Refusal<OtherShape>>
     ensures { Reads result (each_item T.shape (items_view values.now)) }
 {
     let mut list = List::new(alloc);
@@ -81,22 +81,26 @@ fn each_item<T: FromJson>(alloc: Global, values: &[Value]) -> Result<List<T>, Sh
 impl<T: FromJson> FromJson for List<T> {
     ghost shape = { list_of T.shape };
 
-    fn from_json(alloc: Global, value: &Value) -> Result<List<T>, ShapeError> {
+    fn from_json(alloc: Global, value: &Value) -> Result<List<T>, Refusal<OtherShape>> {
         match value.as_array() {
             Some(values) => each_item(alloc, values),
-            None => Err(ShapeError::Shape),
+            None => Err(Refusal::For(OtherShape)),
         }
     }
 }
 
 /// A member that is there.
 #[tactic(auto, unfolding(crate::specs::Shapes::required))]
-pub fn required<T: FromJson>(alloc: Global, value: &Value, name: &str) -> Result<T, ShapeError>
+pub fn required<T: FromJson>(
+    alloc: Global,
+    value: &Value,
+    name: &str,
+) -> Result<T, Refusal<OtherShape>>
     ensures { Reads result (required T.shape name.now (view value.now)) }
 {
     match value.get(name) {
         Some(inside) => T::from_json(alloc, inside),
-        None => Err(ShapeError::Shape),
+        None => Err(Refusal::For(OtherShape)),
     }
 }
 
@@ -106,7 +110,7 @@ pub fn optional<T: FromJson>(
     alloc: Global,
     value: &Value,
     name: &str,
-) -> Result<Option<T>, ShapeError>
+) -> Result<Option<T>, Refusal<OtherShape>>
     ensures { Reads result (optional T.shape name.now (view value.now)) }
 {
     let Some(inside) = value.get(name) else {
@@ -125,7 +129,7 @@ pub fn list_or_empty<T: FromJson>(
     alloc: Global,
     value: &Value,
     name: &str,
-) -> Result<List<T>, ShapeError>
+) -> Result<List<T>, Refusal<OtherShape>>
     ensures { Reads result (list_or_empty T.shape name.now (view value.now)) }
 {
     match optional(alloc, value, name)? {
@@ -154,7 +158,7 @@ pub fn null(value: &Value, name: &str) -> Result<(), OtherShape>
 impl<T: FromJson> FromJson for Option<T> {
     ghost shape = { nullable T.shape };
 
-    fn from_json(alloc: Global, value: &Value) -> Result<Option<T>, ShapeError> {
+    fn from_json(alloc: Global, value: &Value) -> Result<Option<T>, Refusal<OtherShape>> {
         if value.is_null() {
             return Ok(None);
         }
@@ -169,7 +173,7 @@ pub fn unless_absent<T: FromJson>(
     alloc: Global,
     value: &Value,
     name: &str,
-) -> Result<Option<T>, ShapeError>
+) -> Result<Option<T>, Refusal<OtherShape>>
     ensures { Reads result (unless_absent T.shape name.now (view value.now)) }
 {
     let Some(inside) = value.get(name) else {
@@ -185,7 +189,7 @@ pub fn list_unless_absent<T: FromJson>(
     alloc: Global,
     value: &Value,
     name: &str,
-) -> Result<List<T>, ShapeError>
+) -> Result<List<T>, Refusal<OtherShape>>
     ensures { Reads result (list_unless_absent T.shape name.now (view value.now)) }
 {
     match unless_absent(alloc, value, name)? {

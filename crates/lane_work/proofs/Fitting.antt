@@ -13,7 +13,7 @@ use Rattle.plane_spec.proofs.Lists.{All-weaken}
 use Rattle.plane_spec.proofs.Steady.{change_steady, fold_closed}
 use Rattle.plane_spec.specs.Config.{Committed, Event}
 use Rattle.plane_spec.specs.Legal.{May, Legal}
-use Rattle.plane_spec.specs.Planes.{Control, Plane, opened, apply, applied, after, committed, staged_committed}
+use Rattle.plane_spec.specs.Planes.{ControlState, Plane, opened, apply, applied, after, committed, staged_committed}
 use Rattle.packet_spec.specs.Meaning.{meaning}
 use Rattle.role_arbiter.specs.State.{RolesState, primary_of}
 use Rattle.role_arbiter.specs.declared.sessions.Session.{Session}
@@ -43,7 +43,7 @@ fits_go_on start list more packet fits =
     let same : after start (list ++ more) r.steps ≡ after start list r.steps = ap (applied (opened start)) (take-append-le r.steps list more within) in
     record {
       in_list = omega (arith, fits.in_list, no_fewer_steps list more);
-      meant = fits.meant ∙ sym (ap (λ (c : Control). carried r.who r.index r.steps c packet.arrival.0 packet.arrival.1) same);
+      meant = fits.meant ∙ sym (ap (λ (c : ControlState). carried r.who r.index r.steps c packet.arrival.0 packet.arrival.1) same);
     }
 
 pub shares_go_on : (start : Start) (list more : List Event) (share : Share) → IsShare start list share → IsShare start (list ++ more) share
@@ -57,7 +57,7 @@ shares_go_on start list more share h = record {
 -- ---- The state after what was told
 
 -- the same but for the end of the list
-record IsLike (c d : Control) : Type 0 where
+record IsLike (c d : ControlState) : Type 0 where
   roles : c.roles ≡ d.roles
   active : c.active ≡ d.active
   cpu : c.cpu ≡ d.cpu
@@ -67,22 +67,22 @@ abbrev by_parts : Who → ℕ → ℕ → ℕ → List ℕ → RolesState → Op
 by_parts who index n port packet roles active cpu = record_of who index n (option_map (λ (p : Session). p.caller) (primary_of roles 0)) (meaning active cpu port packet)
 
 -- what becomes of a packet is the same in both
-like_carried : (c d : Control) (who : Who) (index n port : ℕ) (packet : List ℕ) → IsLike c d → carried who index n c port packet ≡ carried who index n d port packet
+like_carried : (c d : ControlState) (who : Who) (index n port : ℕ) (packet : List ℕ) → IsLike c d → carried who index n c port packet ≡ carried who index n d port packet
 like_carried c d who index n port packet like =
     ap (λ (roles : RolesState). by_parts who index n port packet roles c.active c.cpu) like.roles
     ∙ ap (λ (active : Option Plane). by_parts who index n port packet d.roles active c.cpu) like.active
     ∙ ap (λ (cpu : ℕ). by_parts who index n port packet d.roles d.active cpu) like.cpu
 
-staged_closed : (o : Option Plane) (c : Control) → (staged_committed o c).closed ≡ c.closed
+staged_closed : (o : Option Plane) (c : ControlState) → (staged_committed o c).closed ≡ c.closed
 staged_closed None c = refl
 staged_closed (Some plane) c = refl
 
-commit_closed : (content : Committed) (c : Control) → (committed c content).closed ≡ c.closed
+commit_closed : (content : Committed) (c : ControlState) → (committed c content).closed ≡ c.closed
 commit_closed contents.Staged c = staged_closed c.staged c
 commit_closed (contents.Fresh config) c = refl
 
 -- nothing follows the end
-ended : (c : Control) (event : Event) → c.closed ≡ true → May c event → ⊥
+ended : (c : ControlState) (event : Event) → c.closed ≡ true → May c event → ⊥
 ended c (events.Arbitrate by config) is may = let open_yet = may.0 in cc
 ended c (events.Leave caller call) is may = let open_yet = may.0 in cc
 ended c (events.Change by change) is may = let open_yet = may.0 in cc
@@ -92,7 +92,7 @@ ended c (events.Commit by content) is may = let open_yet = may.0 in cc
 ended c events.Close is may = cc
 
 -- the state after as many steps as legal events are is like that after the events
-like_told : (c : Control) (list : List Event) → Legal c list → c.closed ≡ false → IsLike (applied c (take (length (steps_of list)) list)) (applied c list)
+like_told : (c : ControlState) (list : List Event) → Legal c list → c.closed ≡ false → IsLike (applied c (take (length (steps_of list)) list)) (applied c list)
 like_told c [] legal open_yet = record { roles = refl; active = refl; cpu = refl }
 like_told c (events.Arbitrate by config ∷ list) legal open_yet = like_told (apply c (events.Arbitrate by config)) list legal.1 open_yet
 like_told c (events.Leave caller call ∷ list) legal open_yet = like_told (apply c (events.Leave caller call)) list legal.1 open_yet

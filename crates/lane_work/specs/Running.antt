@@ -1,19 +1,20 @@
 -- The work of a lane beside the packets that it was given (this project's profile).
 use Rattle.std.specs.Prelude.{◌≡◌, ℕ, ◌≤◌, List, [], ◌∷◌, map}
 use Rattle.std.specs.List.{AllZip}
-use Rattle.lane_work.specs.declared.work.RunError.{RunError}
-use Rattle.lane_work.specs.declared.work.RunError.TheVariants as errors
+use Rattle.list_types.specs.declared.memory.Refusal.{Refusal}
+use Rattle.list_types.specs.declared.memory.Refusal.TheVariants.{NoMemory, For}
 use Rattle.lane_work.specs.Shares.{Share, IsShare, outcomes}
 use Rattle.lane_work.specs.Work.{Work}
 use Rattle.p4_types.specs.declared.records.Record.{Record}
 use Rattle.pub_snap.specs.Beginnings.{Begins}
 use Rattle.snap_worker.specs.Working.{one_more}
+use Rattle.snap_worker.specs.declared.worker.NoEntry.{NoEntry}
 use Rattle.switch_spec.specs.Counts.{Arrival, Carried}
 
 -- A packet was not run: without a snapshot the count of refusals rose, without memory nothing changed.
-abbrev pub IsRefused : RunError → Work → Work → Type 0
-IsRefused errors.NoEntry before after = after ≡ record before { refusals = one_more before.refusals }
-IsRefused errors.NoMemory before after = after ≡ before
+abbrev pub IsRefused : Refusal NoEntry → Work → Work → Type 0
+IsRefused (For none) before after = after ≡ record before { refusals = one_more before.refusals }
+IsRefused NoMemory before after = after ≡ before
 
 -- packets beside their records, in their order
 abbrev pub beside : List Arrival → List Record → List Carried

@@ -6,4 +6,4 @@ pub mod laws;
 mod recording;
 mod work;
 
-pub use work::{Finished, LaneWork, RunError};
+pub use work::{Finished, LaneWork};

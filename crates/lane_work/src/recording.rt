@@ -1,5 +1,5 @@
 //! The record of a packet, made of its verdict.
-ghost use Rattle.std.specs.Prelude.{◌≡◌, ◌+◌, ◌-◌, ◌^◌, ◌<◌, ◌≤◌, length, map, OnOk, OnErr, IfOk};
+ghost use Rattle.std.specs.Prelude.{◌≡◌, map, OnOk, OnErr, IfOk};
 ghost use Rattle.lane_work.specs.Work.{with_last};
 ghost use Rattle.switch_spec.specs.Meaning.{record_of, to_lane};
 
@@ -29,7 +29,7 @@ fn addressed(
 fn recorded(
     alloc: Global,
     who: Who,
-    index: u32,
+    index: u64,
     steps: u64,
     receiver: Option<u16>,
     verdict: &Verdict,
@@ -58,14 +58,13 @@ pub(crate) fn record_last(
     verdict: &Verdict,
     records: &mut List<Record>,
 ) -> Result<(), NoMemory>
-    requires room { length (with_last who records.old is_due steps receiver verdict.now) ≤ 2 ^ 32 - 1 }
     ensures recorded { OnOk result (records.new ≡ with_last who records.old is_due steps receiver verdict.now) }
     ensures kept { OnErr result (records.new ≡ records.old) }
 {
     if !is_due {
         return Ok(());
     }
-    let index = records.len() as u32 + 1;
+    let index = records.as_slice().len() as u64 + 1;
     let last = recorded(alloc, who, index, steps, receiver, verdict)?;
     records.push(last)?;
     Ok(())

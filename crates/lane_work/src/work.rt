@@ -10,7 +10,7 @@ ghost use Rattle.snap_worker.specs.Sums.{AreSums, NotesOwn, SeatLooks, noted_by}
 
 use crate::recording::record_last;
 use counter_bank::{Bank, Seat};
-use list_types::{List, NoMemory};
+use list_types::{List, NoMemory, Refusal};
 use p4_types::records::Record;
 use p4_types::tape::Who;
 use pkt_worker::Verdict;
@@ -18,40 +18,6 @@ use pub_snap::{Told, Viewer};
 use snap_worker::{Loaded, NoEntry, Worker};
 use std::alloc::Global;
 use std::marker::Model;
-
-/// How many records a lane keeps at most: as many as their numbers tell apart.
-const MOST_RECORDS: usize = 4_294_967_295;
-
-/// Why a packet was not run.
-#[derive(Clone, Copy)]
-pub enum RunError {
-    /// There was no snapshot to enter, which was counted.
-    NoEntry,
-    /// There was no memory for the record of the packet before, or no room for another.
-    NoMemory,
-}
-
-impl From<NoEntry> for RunError {
-    ghost use Rattle.std.specs.Prelude.{◌≡◌};
-    ghost use Rattle.lane_work.specs.declared.work.RunError.TheVariants as errors;
-
-    ghost from_gives = { λ _ e. e ≡ errors.NoEntry };
-
-    fn from(_: NoEntry) -> RunError {
-        RunError::NoEntry
-    }
-}
-
-impl From<NoMemory> for RunError {
-    ghost use Rattle.std.specs.Prelude.{◌≡◌};
-    ghost use Rattle.lane_work.specs.declared.work.RunError.TheVariants as errors;
-
-    ghost from_gives = { λ _ e. e ≡ errors.NoMemory };
-
-    fn from(_: NoMemory) -> RunError {
-        RunError::NoMemory
-    }
-}
 
 /// What one lane has done in a run: the record of each packet that it ran on snapshots of the control state, and, by its seat
 /// of the counters, what they hit. It takes the memory of a packet's record before it runs the next one, so that a packet
@@ -67,7 +33,6 @@ pub struct LaneWork {
 }
 
 impl Model for LaneWork {
-    ghost use Rattle.std.specs.Prelude.{◌-◌, ◌^◌, ◌≤◌, length};
     ghost use Rattle.bm_expr.specs.TreeCode.{number_code, truth_code};
     ghost use Rattle.lane_work.specs.Work.{Work, with_last};
     ghost use Rattle.std.specs.Coded.{codes};
@@ -84,8 +49,6 @@ impl Model for LaneWork {
       records = with_last w.who w.records w.is_due w.worker.steps w.worker.receiver w.verdict;
       seat = w.worker.seat;
     } };
-
-    ghost invariant = { λ w. length (with_last w.who w.records w.is_due w.worker.steps w.worker.receiver w.verdict) ≤ 2 ^ 32 - 1 };
 }
 
 /// What is left of a lane's work: its viewer, its seat, and its records.
@@ -145,7 +108,7 @@ impl LaneWork {
         ensures { result ≡ length self.now.records }
     {
         if self.is_due {
-            self.records.len() + 1
+            self.records.as_slice().len() + 1
         } else {
             self.records.len()
         }
@@ -164,14 +127,14 @@ impl LaneWork {
 
     /// Runs a packet, of at most 9,216 bytes, that enters at a port, on a snapshot whose list begins with all that was seen and
     /// learnt, and counts each of its hits that has a slot: one packet, and the bytes that came in. It waits for nobody.
-    /// Its record is the lane's next. A lane has room for 2^32 - 1 records, as a record's number is below 2^32.
+    /// Its record is the lane's next. Without a snapshot to enter it is not run, which is counted.
     pub fn run(
         &mut self,
         alloc: Global,
         bank: &Bank,
         port: u16,
         packet: &[u8],
-    ) -> Result<(), RunError>
+    ) -> Result<(), Refusal<NoEntry>>
         requires bank { self.old.seat.bank ≡ bank.now.id }
         requires slots { slot_limit ≤ bank.now.slots }
         requires packet { length packet.now ≤ 9216 }
@@ -192,9 +155,6 @@ impl LaneWork {
             &mut self.records,
         )?;
         self.is_due = false;
-        if self.records.len() >= MOST_RECORDS {
-            return Err(RunError::NoMemory);
-        }
         self.worker.process(bank, port, packet, &mut self.verdict)?;
         self.is_due = true;
         let _events = self.worker.told().len();

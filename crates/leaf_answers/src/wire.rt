@@ -1,8 +1,9 @@
 //! Fields of protobuf messages, and messages by the numbers of their fields.
+use list_types::Refusal;
 use row_lines::{NoAnswer, bytes, say, tell, tell_hex};
 use std::alloc::Global;
 use wire_fields::{Field, Fields, WireFault, Writer};
-use wire_messages::{Message, ReadError};
+use wire_messages::{Message, Unreadable};
 
 fn tell_field(alloc: Global, told: &mut String, field: Field<'_>) {
     match field {
@@ -88,8 +89,19 @@ pub fn numbers(alloc: Global, asked: &[&str], told: &mut String) -> Result<(), N
     Ok(())
 }
 
-fn count<T: Drop>(found: Result<Vec<T>, ReadError>) -> Result<usize, ReadError> {
-    found.map(|list| list.len())
+// What is read, or that it is not; without memory there is no answer.
+fn read<T: Drop>(found: Result<T, Refusal<Unreadable>>) -> Result<Result<T, Unreadable>, NoAnswer> {
+    match found {
+        Ok(value) => Ok(Ok(value)),
+        Err(Refusal::For(cause)) => Ok(Err(cause)),
+        Err(Refusal::NoMemory) => Err(NoAnswer),
+    }
+}
+
+fn count<T: Drop>(
+    found: Result<Vec<T>, Refusal<Unreadable>>,
+) -> Result<Result<usize, Unreadable>, NoAnswer> {
+    read(found.map(|list| list.len()))
 }
 
 /// Of a message: field 1 as bytes, 2 as a text, 3 as a message, how many messages 4 and texts 5 has, the numbers of 6,
@@ -106,9 +118,9 @@ pub fn parts(alloc: Global, asked: &[&str], told: &mut String) -> Result<(), NoA
     tell(told, message.bytes(1));
     tell(told, message.text(2));
     tell(told, message.message(3));
-    tell(told, count(message.messages(alloc, 4)));
-    tell(told, count(message.texts(alloc, 5)));
-    tell(told, message.uint32s(alloc, 6));
+    tell(told, count(message.messages(alloc, 4))?);
+    tell(told, count(message.texts(alloc, 5))?);
+    tell(told, read(message.uint32s(alloc, 6))?);
     tell(told, message.choice(&[7, 8]));
     tell(told, message.is_given(9));
     tell(told, message.has_only(&[1, 2, 3, 4, 5, 6, 7, 8, 9]));

@@ -1,7 +1,8 @@
 //! Rows of device configurations under a P4Info: the first rule of L1 to L15 that is broken.
 #![tactic(auto)]
 
-use bm_json::{JsonError, read_json};
+use bm_json::read_json;
+use list_types::Refusal;
 use p4info_model::P4Info;
 use row_lines::{NoAnswer, say, tell};
 use std::alloc::Global;
@@ -23,11 +24,11 @@ fn tell_program(
             }
             Ok(())
         }
-        Err(JsonError::Fault(fault)) => {
+        Err(Refusal::For(fault)) => {
             tell(told, fault.rule);
             Ok(())
         }
-        Err(JsonError::NoMemory) => Err(NoAnswer),
+        Err(Refusal::NoMemory) => Err(NoAnswer),
     }
 }
 

@@ -12,6 +12,7 @@ use Rattle.p4_types.specs.declared.info.Info.{Info}
 use Rattle.bm_expr.specs.Store.{AreApart}
 use Rattle.bm_pipeline.specs.Validity.{IsWidth, AreOfOneType, IsPrimitive, IsAction}
 use Rattle.bm_values.specs.declared.raw.Part.TheVariants as parts
+use Rattle.bm_values.specs.Literals.{width_bits}
 use Rattle.bm_records.specs.declared.raw.Header.{Header}
 use Rattle.bm_records.specs.declared.raw.LearnListName.{LearnListName}
 use Rattle.bm_records.specs.declared.raw.LearnListName.TheVariants as lists
@@ -22,7 +23,7 @@ use Rattle.bm_records.specs.declared.raw.RawProgram.{RawProgram}
 use Rattle.bm_json.specs.LeftOut.{is_left_out, expression_left_out, name_left_out, primitive_left_out, action_left_out}
 use Rattle.bm_json.specs.Limits.{action_exceeds}
 use Rattle.bm_json.specs.Sound.{IsSoundPrimitive, IsSoundAction}
-use Rattle.bm_rules.specs.Fields.{header_named, has_header, fields_of, is_writable, is_part, bits_of}
+use Rattle.bm_rules.specs.Fields.{header_named, has_header, fields_of, is_writable, is_part}
 use Rattle.bm_rules.specs.References.{is_known, have_one_type, has_counter, has_list, primitive_known, action_known}
 use Rattle.bm_rules.specs.Operations.{primitive_typed}
 use Rattle.link_spec.specs.Fields.{header_at, fields_named, fields_before, header_place}
@@ -138,10 +139,10 @@ pub action_linked : (raw : RawProgram) (info : Info) → HasTypes raw → (actio
 action_linked raw info types action a =
     let limits = or_parts (nat_lt 8 (length action.runtime_data)) (nat_lt 64 (length action.primitives)) a.limits in
     let kept = or_parts (list_any (λ datum. is_left_out datum.width) action.runtime_data) (list_any primitive_left_out action.primitives) a.kept in
-    let many : length (map (λ datum. bits_of datum.width) action.runtime_data) ≡ length action.runtime_data = length-map action.runtime_data (λ datum. bits_of datum.width) in
+    let many : length (map (λ datum. width_bits datum.width) action.runtime_data) ≡ length action.runtime_data = length-map action.runtime_data (λ datum. width_bits datum.width) in
     record {
       number = omega (arith, many, ltb-false 8 (length action.runtime_data) limits.0);
-      widths = All-map IsWidth (λ datum. bits_of datum.width) action.runtime_data
+      widths = All-map IsWidth (λ datum. width_bits datum.width) action.runtime_data
           (λ k d l. is_width (slice_index_or action.runtime_data k d).width (a.sound.runtime_data k d l) (each_fails (λ datum. is_left_out datum.width) action.runtime_data kept.0 k d l));
       limit = omega (arith, length-map action.primitives (primitive_of raw info), ltb-false 64 (length action.primitives) limits.1);
       primitives = subst (λ n. All (IsPrimitive (program_of raw info) n) (map (primitive_of raw info) action.primitives)) (sym many)

@@ -13,11 +13,12 @@ use Rattle.bm_pipeline.specs.Validity.{IsWidth, IsHeaderPlace, IsInPackets, IsFi
 use Rattle.bm_values.specs.declared.raw.Part.{Part}
 use Rattle.bm_values.specs.declared.raw.Part.TheVariants as parts
 use Rattle.bm_values.specs.declared.raw.FieldName.{FieldName}
+use Rattle.bm_values.specs.Literals.{width_bits}
 use Rattle.bm_records.specs.declared.raw.Header.{Header}
 use Rattle.bm_records.specs.declared.raw.TypeField.{TypeField}
 use Rattle.bm_records.specs.declared.raw.RawProgram.{RawProgram}
 use Rattle.bm_json.specs.LeftOut.{is_left_out, is_ragged_header, names_ragged}
-use Rattle.bm_rules.specs.Fields.{header_named, has_header, fields_of, field_among, field_by_names, is_validity, is_readable, is_writable, is_part, bits_of, field_bits, bits_of_names}
+use Rattle.bm_rules.specs.Fields.{header_named, has_header, fields_of, field_among, field_by_names, is_validity, is_readable, is_writable, is_part, field_bits, bits_of_names}
 use Rattle.link_spec.specs.Fields.{at, header_at, or_none, fields_named, fields_before, header_place, field_by, field_at, field_ref, target_at, part_ref, header_of, headers_from}
 use Rattle.link_spec.specs.Linked.{program_of}
 use Rattle.link_spec.proofs.Found.{Found, found, found_within, of_found, some_has}
@@ -100,7 +101,7 @@ field_index : (raw : RawProgram) (header field : List ℕ) (f : FieldFound raw h
 field_index raw header field f =
     ap (λ fields. at (λ x. x.name) field fields) (fields_named_is raw header f.in_header) ∙ ap (λ o. unwrap_or o 0) f.own.at
 
-field_width : (raw : RawProgram) (header field : List ℕ) (f : FieldFound raw header field) → bits_of_names raw header field ≡ bits_of f.own.object.width
+field_width : (raw : RawProgram) (header field : List ℕ) (f : FieldFound raw header field) → bits_of_names raw header field ≡ width_bits f.own.object.width
 field_width raw header field f = ap field_bits (by_names raw header field f.in_header ∙ f.own.is)
 
 -- a field that is known is among the program's
@@ -109,8 +110,8 @@ pub field_fits : (raw : RawProgram) (info : Info) (args : ℕ) → HasTypes raw 
 field_fits raw info args types header field some =
     let f : FieldFound raw header field = field_found raw header field some in
     let before : fields_before raw (header_at raw header) ≡ fields_before raw f.in_header.place = ap (fields_before raw) (header_at_is raw header f.in_header) in
-    let width : IsWidth (bits_of f.own.object.width) =
-    of_found (λ x. IsWidth (bits_of x.width)) (λ x. bytes_eq x.name field) (fields_of raw f.in_header.object) f.own.object (header_widths raw types f.in_header.object) f.own.is in
+    let width : IsWidth (width_bits f.own.object.width) =
+    of_found (λ x. IsWidth (width_bits x.width)) (λ x. bytes_eq x.name field) (fields_of raw f.in_header.object) f.own.object (header_widths raw types f.in_header.object) f.own.is in
     record {
       field = omega (
         arith,

@@ -1,6 +1,6 @@
 -- Headers and their fields stand one behind the other, each at its place.
-use Rattle.std.proofs.Common.{◌≡◌, ℕ, zero, suc, ◌+◌, ◌-◌, ◌%◌, ◌<◌, ◌≤◌, nat_lt, Bool, true, false, cond, not, ◌&&◌, List, [], ◌∷◌, length, map, take, Option, Some, None, refl, sym, ap, ◌∙◌, subst, arith}
-use Rattle.std.specs.Prelude.{All, sum, sum_by, fold, ◌==◌, slice_index_or}
+use Rattle.std.proofs.Common.{◌≡◌, ℕ, zero, suc, ◌+◌, ◌%◌, ◌<◌, ◌≤◌, nat_lt, Bool, true, false, not, ◌&&◌, List, [], ◌∷◌, length, map, take, Option, Some, None, refl, sym, ap, ◌∙◌, subst, arith}
+use Rattle.std.specs.Prelude.{All, sum, sum_by, ◌==◌, slice_index_or}
 use Rattle.std.specs.List.{slice_get, list_any}
 use Rattle.std.specs.Str.{bytes_eq}
 use Rattle.std.proofs.lemmas.Bool.Decides.{nat_tests}
@@ -11,15 +11,16 @@ use Rattle.std.proofs.lemmas.Option.{slice_get_within, get_or_from_slice_get}
 use Rattle.bm_pipeline.specs.Validity.{IsWidth, IsHeader, HeadersStand}
 use Rattle.bm_values.specs.declared.raw.Part.{Part}
 use Rattle.bm_values.specs.declared.raw.Part.TheVariants as parts
+use Rattle.bm_values.specs.Literals.{width_bits}
 use Rattle.bm_records.specs.declared.raw.Header.{Header}
 use Rattle.bm_records.specs.declared.raw.HeaderType.{HeaderType}
 use Rattle.bm_records.specs.declared.raw.TypeField.{TypeField}
 use Rattle.bm_records.specs.declared.raw.RawProgram.{RawProgram}
-use Rattle.bm_json.specs.LeftOut.{is_left_out, type_left_out, width_bits, bits_over, type_named, is_ragged_type, has_ragged_type, is_ragged}
+use Rattle.bm_json.specs.LeftOut.{is_left_out, type_left_out, type_named, is_ragged_type, has_ragged_type, is_ragged}
 use Rattle.bm_json.specs.Limits as limits
 use Rattle.bm_json.specs.Sound.{IsSoundWidth, IsSoundType}
 use Rattle.bm_rules.specs.Names.{named}
-use Rattle.bm_rules.specs.Fields.{fields_in, fields_of, bits_of}
+use Rattle.bm_rules.specs.Fields.{fields_in, fields_of}
 use Rattle.link_spec.specs.Fields.{fields_before, header_of, headers_from}
 use Rattle.link_spec.proofs.Found.{of_found, each_fails}
 
@@ -86,17 +87,23 @@ same_count : (o : Option HeaderType) → limits.fields_in o ≡ length (fields_i
 same_count None = refl
 same_count (Some type) = refl
 
--- a part and the rest fit a room, where the part does and the rest fits what is left of it
-pub fits_room : (n m room sum rest : ℕ) (b more : Bool) → n ≡ m → nat_lt room n ≡ b → cond b true more ≡ false → (more ≡ false → rest ≤ room - n) → sum ≡ m + rest → sum ≤ room
-fits_room n m room sum rest true more same test fits others total = absurd cc
-fits_room n m room sum rest false more same test fits others total = let below : rest ≤ room - n = others fits in grind (arith, nat_tests)
+-- two sums of what is the same
+pub same_sum : (n m s t f g : ℕ) → n ≡ m → s ≡ t → f ≡ n + s → g ≡ m + t → f ≡ g
+same_sum n m s t f g e h i j = omega arith
+
+same_counts : (raw : RawProgram) (headers : List Header) → sum_by (limits.fields_of raw.header_types) headers ≡ sum_by (count_of raw) headers
+same_counts raw [] = refl
+same_counts raw (header ∷ others) =
+    same_sum (limits.fields_of raw.header_types header) (count_of raw header) (sum_by (limits.fields_of raw.header_types) others) (sum_by (count_of raw) others) _ _
+    (same_count (type_named raw.header_types header.header_type)) (same_counts raw others)
+    (sum_by-cons (limits.fields_of raw.header_types) header others) (sum_by-cons (count_of raw) header others)
+
+-- what is not more than there is room for
+pub at_most : (room n m : ℕ) → nat_lt room n ≡ false → n ≡ m → m ≤ room
+at_most room n m fits e = grind (arith, nat_tests)
 
 more_fields : (raw : RawProgram) (room : ℕ) (headers : List Header) → limits.has_more_fields room raw.header_types headers ≡ false → sum_by (count_of raw) headers ≤ room
-more_fields raw room [] fits = omega arith
-more_fields raw room (header ∷ others) fits =
-    let n : ℕ = limits.fields_of raw.header_types header in
-    fits_room n (count_of raw header) room (sum_by (count_of raw) (header ∷ others)) (sum_by (count_of raw) others) (nat_lt room n) (limits.has_more_fields (room - n) raw.header_types others)
-    (same_count (type_named raw.header_types header.header_type)) refl fits (more_fields raw (room - n) others) (sum_by-cons (count_of raw) header others)
+more_fields raw room headers fits = at_most room (sum_by (limits.fields_of raw.header_types) headers) (sum_by (count_of raw) headers) fits (same_counts raw headers)
 
 -- the headers have no more fields than there is room for
 pub fields_limit : (raw : RawProgram) (room : ℕ) → limits.has_more_fields room raw.header_types raw.headers ≡ false → fields_before raw (length raw.headers) ≤ room
@@ -105,19 +112,19 @@ fields_limit raw room fits = subst (λ n. n ≤ room) (sym (fields_together raw)
 -- ---- widths
 
 -- a width that is served and in its range is one of 1 to 128 bits
-pub is_width : (width : Part ℕ) → IsSoundWidth width → is_left_out width ≡ false → IsWidth (bits_of width)
+pub is_width : (width : Part ℕ) → IsSoundWidth width → is_left_out width ≡ false → IsWidth (width_bits width)
 is_width (parts.Served bits) sound kept = sound
 is_width parts.LeftOut sound kept = absurd cc
 
 -- each field has a width of 1 to 128 bits
 abbrev pub HaveWidths : List TypeField → Type 0
-HaveWidths fields = All (λ field. IsWidth (bits_of field.width)) fields
+HaveWidths fields = All (λ field. IsWidth (width_bits field.width)) fields
 
 type_widths : (type : HeaderType) → IsSoundType type → type_left_out type ≡ false → HaveWidths type.fields
 type_widths type sound kept = λ k d l. is_width (slice_index_or type.fields k d).width (sound k d l) (each_fails (λ field. is_left_out field.width) type.fields kept k d l)
 
 widths_in : (o : Option HeaderType) → ((type : HeaderType) → o ≡ Some type → HaveWidths type.fields) → HaveWidths (fields_in o)
-widths_in None each = All-nil (λ field. IsWidth (bits_of field.width))
+widths_in None each = All-nil (λ field. IsWidth (width_bits field.width))
 widths_in (Some type) each = each type refl
 
 -- the widths of all header types are in their range and served
@@ -134,29 +141,22 @@ header_widths raw types header =
 
 -- ---- whole bytes
 
-same_bits : (width : Part ℕ) → width_bits width ≡ bits_of width
-same_bits (parts.Served bits) = refl
-same_bits parts.LeftOut = refl
-
 -- the bits of some fields
 abbrev pub bits_together : List TypeField → ℕ
-bits_together fields = sum (map (λ field. bits_of field.width) fields)
+bits_together fields = sum (map (λ field. width_bits field.width) fields)
 
-over_step : (n a s t w v : ℕ) → n % 8 ≡ ((a + w) % 8 + s) % 8 → t ≡ v + s → w ≡ v → n % 8 ≡ (a + t) % 8
-over_step n a s t w v e f g = omega arith
+together : (fields : List TypeField) → sum_by (λ field. width_bits field.width) fields ≡ bits_together fields
+together [] = refl
+together (field ∷ fields) =
+    same_sum (width_bits field.width) (width_bits field.width) (sum_by (λ field. width_bits field.width) fields) (bits_together fields) _ _ refl (together fields)
+    (sum_by-cons (λ field. width_bits field.width) field fields) (sum_by-cons (λ n. n) (width_bits field.width) (map (λ field. width_bits field.width) fields))
 
-over : (a : ℕ) (fields : List TypeField) → fold (λ bits field. (bits + width_bits field.width) % 8) a fields % 8 ≡ (a + bits_together fields) % 8
-over a [] = omega arith
-over a (field ∷ fields) =
-    over_step (fold (λ bits field. (bits + width_bits field.width) % 8) ((a + width_bits field.width) % 8) fields) a (bits_together fields) (bits_together (field ∷ fields)) (width_bits field.width) (bits_of field.width)
-    (over ((a + width_bits field.width) % 8) fields) (sum_by-cons (λ n. n) (bits_of field.width) (map (λ field. bits_of field.width) fields)) (same_bits field.width)
-
-whole_if : (n m : ℕ) → not (n == 0) ≡ false → n % 8 ≡ (0 + m) % 8 → m % 8 ≡ 0
+whole_if : (n m : ℕ) → not (n % 8 == 0) ≡ false → n ≡ m → m % 8 ≡ 0
 whole_if n m e f = grind (arith, nat_tests)
 
 whole_type : (o : Option HeaderType) → is_ragged_type o ≡ false → bits_together (fields_in o) % 8 ≡ 0
 whole_type None whole = refl
-whole_type (Some type) whole = whole_if (bits_over type.fields) (bits_together type.fields) whole (over 0 type.fields)
+whole_type (Some type) whole = whole_if (sum_by (λ field. width_bits field.width) type.fields) (bits_together type.fields) whole (together type.fields)
 
 -- a header that is not ragged has whole bytes
 pub whole_bytes : (raw : RawProgram) (header : Header) → has_ragged_type raw.header_types header ≡ false → bits_together (fields_of raw header) % 8 ≡ 0
@@ -173,8 +173,8 @@ header_stands raw types place first header whole =
     record {
       own = refl;
       first = refl;
-      count = sym (length-map (fields_of raw header) (λ field. bits_of field.width));
-      widths = All-map IsWidth (λ field. bits_of field.width) (fields_of raw header) (header_widths raw types header);
+      count = sym (length-map (fields_of raw header) (λ field. width_bits field.width));
+      widths = All-map IsWidth (λ field. width_bits field.width) (fields_of raw header) (header_widths raw types header);
       bits = refl;
       whole = λ own. whole_bytes raw header (packet_whole header.metadata (has_ragged_type raw.header_types header) whole own);
     }

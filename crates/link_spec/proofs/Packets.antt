@@ -1,6 +1,6 @@
 -- The parser's states, calculations, checksums and learn lists name what there is.
-use Rattle.std.proofs.Common.{◌≡◌, ℕ, ◌+◌, ◌-◌, ◌/◌, ◌<◌, ◌≤◌, nat_lt, Bool, true, false, cond, ◌||◌, List, [], ◌∷◌, length, map, Option, Some, None, is_some, refl, sym, ap, subst, arith}
-use Rattle.std.specs.Prelude.{All, IfSome, option_map, option_and_then, slice_index_or}
+use Rattle.std.proofs.Common.{◌≡◌, ℕ, ◌<◌, ◌≤◌, nat_lt, Bool, true, false, cond, ◌||◌, List, [], ◌∷◌, length, map, Option, Some, None, is_some, refl, sym, ap, subst}
+use Rattle.std.specs.Prelude.{All, IfSome, option_map, option_and_then, slice_index_or, sum_by}
 use Rattle.std.specs.List.{list_any, list_all}
 use Rattle.std.specs.Set.{is_member}
 use Rattle.std.specs.Str.{bytes_eq}
@@ -32,7 +32,7 @@ use Rattle.bm_records.specs.declared.raw.RawProgram.{RawProgram}
 use Rattle.bm_json.specs.LeftOut.{is_left_out, expression_left_out, parser_op_left_out, input_left_out, learn_list_left_out, extracts_ragged}
 use Rattle.bm_json.specs.Sound.{IsSoundTree, IsSoundParserOp, IsSoundInput}
 use Rattle.bm_rules.specs.Names.{named}
-use Rattle.bm_rules.specs.Fields.{has_header, is_readable, is_writable, is_validity, is_part, field_named, part_width, exceeds}
+use Rattle.bm_rules.specs.Fields.{has_header, is_readable, is_writable, is_validity, is_part, field_named, part_bytes, exceeds}
 use Rattle.bm_rules.specs.References.{is_known, parser_op_known, condition_known, checksum_known, input_known}
 use Rattle.bm_rules.specs.Operations.{parser_op_unknown, parser_op_typed, condition_typed}
 use Rattle.link_spec.specs.Fields.{at, header_at, field_at, part_ref}
@@ -40,7 +40,7 @@ use Rattle.link_spec.specs.Expressions.{truth_of}
 use Rattle.link_spec.specs.Objects.{parser_op_of, state_at, state_of, transition_of, input_of, calculation_of, checksum_of, learn_list_of}
 use Rattle.link_spec.specs.Linked.{program_of}
 use Rattle.link_spec.proofs.Found.{each_fails, position_within, unwrapped_within, any_found}
-use Rattle.link_spec.proofs.Headers.{HasTypes, fits_room, is_width}
+use Rattle.link_spec.proofs.Headers.{HasTypes, same_sum, at_most, is_width}
 use Rattle.link_spec.proofs.Fields.{header_exists, header_in_packets, field_fits, writable, readable, part_readable, target_written}
 use Rattle.link_spec.proofs.Expressions.{Reads, value_linked, condition_linked}
 
@@ -89,18 +89,21 @@ ref_width : (validity : Bool) (header : ℕ) (place : FieldPlace) → width_of (
 ref_width true header place = refl
 ref_width false header place = refl
 
-part_bytes : (raw : RawProgram) (name : Part FieldName) → is_left_out name ≡ false → (part_width raw name + 7) / 8 ≡ places.whole_bytes (width_of (part_ref raw name))
-part_bytes raw (parts.Served name) kept = ap places.whole_bytes (sym (ref_width (is_validity name) (header_at raw name.header) (field_at raw name)))
-part_bytes raw parts.LeftOut kept = absurd cc
+same_bytes : (raw : RawProgram) (name : Part FieldName) → is_left_out name ≡ false → part_bytes raw name ≡ places.whole_bytes (width_of (part_ref raw name))
+same_bytes raw (parts.Served name) kept = ap places.whole_bytes (sym (ref_width (is_validity name) (header_at raw name.header) (field_at raw name)))
+same_bytes raw parts.LeftOut kept = absurd cc
+
+bytes_together : (raw : RawProgram) (names : List (Part FieldName)) → list_any is_left_out names ≡ false → sum_by (part_bytes raw) names ≡ key_bytes (map (part_ref raw) names)
+bytes_together raw [] kept = refl
+bytes_together raw (name ∷ names) kept =
+    let k = or_parts (is_left_out name) (list_any is_left_out names) kept in
+    same_sum (part_bytes raw name) (places.whole_bytes (width_of (part_ref raw name))) (sum_by (part_bytes raw) names) (key_bytes (map (part_ref raw) names)) _ _
+    (same_bytes raw name k.0) (bytes_together raw names k.1)
+    (sum_by-cons (part_bytes raw) name names) (sum_by-cons (λ field. places.whole_bytes (width_of field)) (part_ref raw name) (map (part_ref raw) names))
 
 -- a key that is not too wide takes no more bytes than there is room for
 pub key_fits : (raw : RawProgram) (room : ℕ) (names : List (Part FieldName)) → list_any is_left_out names ≡ false → exceeds room raw names ≡ false → key_bytes (map (part_ref raw) names) ≤ room
-key_fits raw room [] kept fits = omega arith
-key_fits raw room (name ∷ names) kept fits =
-    let k = or_parts (is_left_out name) (list_any is_left_out names) kept in
-    let n : ℕ = (part_width raw name + 7) / 8 in
-    fits_room n (places.whole_bytes (width_of (part_ref raw name))) room (key_bytes (map (part_ref raw) (name ∷ names))) (key_bytes (map (part_ref raw) names)) (nat_lt room n) (exceeds (room - n) raw names)
-    (part_bytes raw name k.0) refl fits (key_fits raw (room - n) names k.1) (sum_by-cons (λ field. places.whole_bytes (width_of field)) (part_ref raw name) (map (part_ref raw) names))
+key_fits raw room names kept fits = at_most room (sum_by (part_bytes raw) names) (key_bytes (map (part_ref raw) names)) fits (bytes_together raw names kept)
 
 next_within : (raw : RawProgram) (name : Option (List ℕ)) → IfSome (option_and_then (state_at raw) name) (λ next. next < length (map (state_of raw) raw.parser.parse_states))
 next_within raw None = tt

@@ -9,11 +9,12 @@ use Rattle.bm_pipeline.specs.declared.headers.StandardMetadata.{StandardMetadata
 use Rattle.bm_values.specs.declared.raw.Part.{Part}
 use Rattle.bm_values.specs.declared.raw.Part.TheVariants as parts
 use Rattle.bm_values.specs.declared.raw.FieldName.{FieldName}
+use Rattle.bm_values.specs.Literals.{width_bits}
 use Rattle.bm_records.specs.declared.raw.Header.{Header}
 use Rattle.bm_records.specs.declared.raw.TypeField.{TypeField}
 use Rattle.bm_records.specs.declared.raw.RawProgram.{RawProgram}
 use Rattle.bm_rules.specs.Names.{place_of}
-use Rattle.bm_rules.specs.Fields.{header_named, fields_of, field_by_names, bits_of, bits_of_names, is_validity}
+use Rattle.bm_rules.specs.Fields.{header_named, fields_of, field_by_names, bits_of_names, is_validity}
 
 -- the place of an object, 0 where there is none
 abbrev pub at : {A : Type 0} → (A → List ℕ) → List ℕ → List A → ℕ
@@ -80,8 +81,8 @@ header_of raw place first header =
     record {
       place = record { header = place; first = first; count = length (fields_of raw header) };
       metadata = header.metadata;
-      widths = map (λ field. bits_of field.width) (fields_of raw header);
-      bits = sum (map (λ field. bits_of field.width) (fields_of raw header));
+      widths = map (λ field. width_bits field.width) (fields_of raw header);
+      bits = sum (map (λ field. width_bits field.width) (fields_of raw header));
     }
 
 -- the headers from a place on, one behind the other, and so their fields

@@ -3,6 +3,7 @@ use Rattle.std.specs.Prelude.{ℕ, ◌==◌, ◌-◌, ◌^◌, if◌then◌else�
 use Rattle.std.specs.List.{position}
 use Rattle.p4_types.specs.declared.info.Info.{Info}
 use Rattle.bm_values.specs.declared.raw.Part.{Part}
+use Rattle.bm_values.specs.Literals.{width_bits}
 use Rattle.bm_records.specs.declared.raw.RawProgram.{RawProgram}
 use Rattle.bm_records.specs.declared.raw.Primitive as raw_primitives
 use Rattle.bm_records.specs.declared.raw.Primitive.TheVariants as raws
@@ -38,7 +39,6 @@ use Rattle.bm_pipeline.specs.declared.parser.ParseState.{ParseState}
 use Rattle.bm_pipeline.specs.declared.parser.Parser.{Parser}
 use Rattle.bm_pipeline.specs.declared.parser.Transition.{Transition}
 use Rattle.bm_rules.specs.Names.{named, place_of}
-use Rattle.bm_rules.specs.Fields.{bits_of}
 use Rattle.link_spec.specs.Fields.{at, header_at, header_place, field_at, field_ref, target_at, part_ref, of_part}
 use Rattle.link_spec.specs.Expressions.{value_of, truth_of}
 
@@ -111,7 +111,7 @@ primitive_of raw info _ = primitives.NoOp
 
 -- an action
 abbrev pub action_of : RawProgram → Info → raw_actions.Action → Action
-action_of raw info action = record { runtime_data = map (λ datum. bits_of datum.width) action.runtime_data; primitives = map (primitive_of raw info) action.primitives }
+action_of raw info action = record { runtime_data = map (λ datum. width_bits datum.width) action.runtime_data; primitives = map (primitive_of raw info) action.primitives }
 
 -- the data of a digest, with the id of the digest of its name in the P4Info
 abbrev pub learn_list_of : RawProgram → Info → raw_lists.LearnList → LearnList
@@ -120,7 +120,7 @@ learn_list_of raw info list = record { digest = option_map (λ digest. digest.pr
 -- an input of a calculation
 abbrev pub input_of : RawProgram → raw_inputs.CalculationInput → CalculationInput
 input_of raw (raw_input.Field name) = inputs.Field (field_ref raw name)
-input_of raw (raw_input.Literal value width) = inputs.Literal (of_part 0 (λ bits. bits) value) (bits_of width)
+input_of raw (raw_input.Literal value width) = inputs.Literal (of_part 0 (λ bits. bits) value) (width_bits width)
 input_of raw raw_input.LeftOut = inputs.Literal 0 0
 
 -- a calculation

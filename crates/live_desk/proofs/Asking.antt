@@ -24,7 +24,7 @@ use Rattle.p4_types.specs.declared.calls.Call.{Call}
 use Rattle.p4_types.specs.declared.calls.Reply.{Reply}
 use Rattle.plane_image.specs.Image.{steps_of}
 use Rattle.plane_spec.specs.Config.{Event}
-use Rattle.plane_spec.specs.Planes.{Control}
+use Rattle.plane_spec.specs.Planes.{ControlState}
 use Rattle.pub_snap.specs.Beginnings.{Beginning, Begins}
 use Rattle.snap_worker.specs.Working.{Working, state_after, verdict_in}
 use Rattle.switch_spec.specs.Answer.{answer_to}
@@ -68,7 +68,7 @@ alone lane last base made begins before now =
 
 -- ---- A call adds its own events to those of its caller
 
-own_by : (b : Bool) (call : Call) (g : Figures) (lane number n : ℕ) (c new : Control) (given now : List Event) (reply : Reply) → HandledBy b c n given (answer_to c g lane number call) reply new now
+own_by : (b : Bool) (call : Call) (g : Figures) (lane number n : ℕ) (c new : ControlState) (given now : List Event) (reply : Reply) → HandledBy b c n given (answer_to c g lane number call) reply new now
     → events_by lane now ≡ events_by lane given ++ (if b then [] else (answer_to c g lane number call).events)
 own_by true call g lane number n c new given now reply h = ap (events_by lane) h.handed ∙ sym (append-nil (events_by lane given))
 own_by false call g lane number n c new given now reply h =

@@ -31,7 +31,7 @@ use Rattle.p4_types.specs.declared.table.Change.{Change}
 use Rattle.packet_out.specs.declared.rule.PacketRule.{PacketRule}
 use Rattle.plane_image.specs.Image.{steps_of}
 use Rattle.plane_spec.specs.Config.{Config, Event}
-use Rattle.plane_spec.specs.Planes.{Control, outcomes}
+use Rattle.plane_spec.specs.Planes.{ControlState, outcomes}
 use Rattle.role_arbiter.specs.declared.sessions.Session.{Session}
 use Rattle.role_arbiter.specs.State.{session_in}
 use Rattle.switch_spec.specs.Answer.{answer_to, arbitration_unless, atomicity_of, batch, get_reply, has_failed, is_atomic, leave_of, origin, packet_reply, read_reply, set_reply, stream_answer, unreadable, write_refusal, write_unless, written}
@@ -65,7 +65,7 @@ written_by : (b : Bool) (by : Origin) (list : List (Result Change Cause)) → Al
 written_by true by list = unless_failed (has_failed list) by (filter_map result_ok list)
 written_by false by list = each_by by (filter_map result_ok list)
 
-write_by : (o : Option Code) (c : Control) (lane k : ℕ) (request : WriteRequest) → AllBy lane (write_unless o c lane k request).events
+write_by : (o : Option Code) (c : ControlState) (lane k : ℕ) (request : WriteRequest) → AllBy lane (write_unless o c lane k request).events
 write_by (Some code) c lane k request = tt
 write_by None c lane k request = written_by (is_atomic (atomicity_of request.atomicity)) (origin lane k request) (outcomes c request.role_id request.updates)
 
@@ -79,11 +79,11 @@ slots_by : (b : Bool) (by : Origin) (action : PipelineAction) (config : Config) 
 slots_by true by action config = tt
 slots_by false by action config = config_by action by config
 
-meant_by : (r : Result Config ConfigRule) (c : Control) (by : Origin) (action : PipelineAction) → AllBy by.caller (set_reply (events_meant c by action r)).events
+meant_by : (r : Result Config ConfigRule) (c : ControlState) (by : Origin) (action : PipelineAction) → AllBy by.caller (set_reply (events_meant c by action r)).events
 meant_by (Err rule) c by action = tt
 meant_by (Ok config) c by action = slots_by (lacks_slots c action config) by action config
 
-made_by : (o : Option PipelineAction) (config : Option ForwardingPipelineConfig) (c : Control) (by : Origin) → AllBy by.caller (set_reply (set_made c by o config)).events
+made_by : (o : Option PipelineAction) (config : Option ForwardingPipelineConfig) (c : ControlState) (by : Origin) → AllBy by.caller (set_reply (set_made c by o config)).events
 made_by None config c by = tt
 made_by (Some actions.Commit) config c by = (same by.caller, tt)
 made_by (Some actions.Verify) None c by = tt
@@ -93,7 +93,7 @@ made_by (Some actions.VerifyAndSave) (Some config) c by = meant_by (config_meant
 made_by (Some actions.VerifyAndCommit) None c by = tt
 made_by (Some actions.VerifyAndCommit) (Some config) c by = meant_by (config_meant config) c by actions.VerifyAndCommit
 
-set_by : (o : Option Code) (c : Control) (by : Origin) (request : SetForwardingPipelineConfigRequest) → AllBy by.caller (set_reply (set_unless o c by request)).events
+set_by : (o : Option Code) (c : ControlState) (by : Origin) (request : SetForwardingPipelineConfigRequest) → AllBy by.caller (set_reply (set_unless o c by request)).events
 set_by (Some code) c by request = tt
 set_by None c by request = made_by (pipeline_action_of request.action) request.config c by
 
@@ -105,7 +105,7 @@ get_by : (r : Result (List ℕ) Code) (lane : ℕ) → AllBy lane (get_reply r).
 get_by (Ok message) lane = tt
 get_by (Err code) lane = tt
 
-arbitration_by : (o : Option ArbitrationRule) (c : Control) (lane k : ℕ) (update : MasterArbitrationUpdate) → AllBy lane (arbitration_unless o c lane k update).events
+arbitration_by : (o : Option ArbitrationRule) (c : ControlState) (lane k : ℕ) (update : MasterArbitrationUpdate) → AllBy lane (arbitration_unless o c lane k update).events
 arbitration_by (Some rule) c lane k update = tt
 arbitration_by None c lane k update = (same lane, tt)
 
@@ -113,14 +113,14 @@ packet_by : (r : Result (List ℕ) PacketRule) (lane : ℕ) (packet : PacketOut)
 packet_by (Ok bytes) lane packet = tt
 packet_by (Err rule) lane packet = tt
 
-stream_by : (message : Option StreamMessageRequest) (c : Control) (lane k : ℕ) → AllBy lane (stream_answer c lane k message).events
+stream_by : (message : Option StreamMessageRequest) (c : ControlState) (lane k : ℕ) → AllBy lane (stream_answer c lane k message).events
 stream_by None c lane k = tt
 stream_by (Some (requests.Arbitration update)) c lane k = arbitration_by _ c lane k update
 stream_by (Some (requests.Packet packet)) c lane k = packet_by (packet_result c lane packet) lane packet
 stream_by (Some (requests.DigestAck acknowledged)) c lane k = tt
 stream_by (Some (requests.Other other)) c lane k = tt
 
-leave_by : (o : Option Session) (c : Control) (lane k : ℕ) → AllBy lane (leave_of o c lane k).events
+leave_by : (o : Option Session) (c : ControlState) (lane k : ℕ) → AllBy lane (leave_of o c lane k).events
 leave_by None c lane k = tt
 leave_by (Some session) c lane k = (same lane, tt)
 
@@ -133,7 +133,7 @@ unreadable_by methods.StreamChannel lane = tt
 unreadable_by methods.Capabilities lane = tt
 
 -- the caller makes the events of its answer
-pub answer_by : (call : Call) (c : Control) (g : Figures) (lane k : ℕ) → AllBy lane (answer_to c g lane k call).events
+pub answer_by : (call : Call) (c : ControlState) (g : Figures) (lane k : ℕ) → AllBy lane (answer_to c g lane k call).events
 answer_by (calls.Write request) c g lane k = write_by (write_refusal c request) c lane k request
 answer_by (calls.Read request) c g lane k = read_by (read_result c g request) lane
 answer_by (calls.Set request) c g lane k = set_by (set_refusal c request) c (set_origin lane k request) request

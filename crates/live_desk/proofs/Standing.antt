@@ -19,7 +19,7 @@ use Rattle.p4_types.specs.declared.events.Start.{Start}
 use Rattle.plane_image.specs.Image.{steps_of}
 use Rattle.plane_spec.specs.Config.{Event}
 use Rattle.plane_spec.specs.Legal.{Legal}
-use Rattle.plane_spec.specs.Planes.{Control, opened, apply, applied}
+use Rattle.plane_spec.specs.Planes.{ControlState, opened, apply, applied}
 use Rattle.pub_snap.specs.Beginnings.{Beginning, Begins}
 use Rattle.pub_snap.specs.Snapshots.{Feed, all_of}
 use Rattle.snap_worker.specs.Working.{state_after}
@@ -29,7 +29,7 @@ use Rattle.switch_spec.specs.Counts.{Figures}
 use Rattle.switch_spec.specs.History.{is_unavailable}
 
 -- what a call adds to the list
-record IsMore (lane : ℕ) (old new : Control) (steps after : ℕ) (given now : List Event) : Type 0 where
+record IsMore (lane : ℕ) (old new : ControlState) (steps after : ℕ) (given now : List Event) : Type 0 where
   own : List Event
   by_lane : AllBy lane own
   events : now ≡ given ++ own
@@ -37,7 +37,7 @@ record IsMore (lane : ℕ) (old new : Control) (steps after : ℕ) (given now : 
   number : after ≡ steps + length own
   each_step : sum_by steps_of own ≡ length own
 
-more_by : (b : Bool) (old new : Control) (steps lane k : ℕ) (g : Figures) (call : Call) (given now : List Event) (reply : Reply) → steps ≡ length given → length now ≤ 2 ^ 64 - 1
+more_by : (b : Bool) (old new : ControlState) (steps lane k : ℕ) (g : Figures) (call : Call) (given now : List Event) (reply : Reply) → steps ≡ length given → length now ≤ 2 ^ 64 - 1
     → HandledBy b old steps given (answer_to old g lane k call) reply new now → IsMore lane old new steps reply.steps given now
 more_by true old new steps lane k g call given now reply is few h = record {
   own = [];
@@ -112,7 +112,7 @@ standing_more base told old new made lane g call reply h below start few handled
     record {
       control =
           more.control
-          ∙ ap (λ (x : Control). applied x more.own) h.control
+          ∙ ap (λ (x : ControlState). applied x more.own) h.control
           ∙ sym (fold-append apply (opened base.start) base.events more.own)
           ∙ ap (applied (opened base.start)) (sym more.events)
           ∙ ap (λ s. applied (opened s) told.events) (sym start);
@@ -141,23 +141,23 @@ standing_new told core none control steps calls = record {
   own = λ lane. ap (made_by_of lane) none;
 }
 
-short_by : (b : Bool) (c new : Control) (n lane k : ℕ) (g : Figures) (call : Call) (given now : List Event) (reply : Reply) → HandledBy b c n given (answer_to c g lane k call) reply new now
+short_by : (b : Bool) (c new : ControlState) (n lane k : ℕ) (g : Figures) (call : Call) (given now : List Event) (reply : Reply) → HandledBy b c n given (answer_to c g lane k call) reply new now
     → IfSome reply.packet (λ packet. length packet ≤ 9216)
 short_by true c new n lane k g call given now reply h = let P : Reply → Type 0 = λ r. IfSome r.packet (λ packet. length packet ≤ 9216) in subst P (sym h.reply_is) tt
 short_by false c new n lane k g call given now reply h =
     let P : Reply → Type 0 = λ r. IfSome r.packet (λ packet. length packet ≤ 9216) in subst P (sym h.reply_is) (answer_to_sound call c g lane k).short_packet
 
 -- a packet that a call makes enter is short
-pub short : (c new : Control) (n lane k : ℕ) (g : Figures) (call : Call) (given now : List Event) (reply : Reply) → Handled c n given (answer_to c g lane k call) reply new now
+pub short : (c new : ControlState) (n lane k : ℕ) (g : Figures) (call : Call) (given now : List Event) (reply : Reply) → Handled c n given (answer_to c g lane k call) reply new now
     → IfSome reply.packet (λ packet. length packet ≤ 9216)
 short c new n lane k g call given now reply h = short_by (is_unavailable reply.code) c new n lane k g call given now reply h
 
-no_fewer_by : (b : Bool) (c new : Control) (n : ℕ) (given now : List Event) (a : Answer) (reply : Reply) → n ≤ 2 ^ 64 - 1 → HandledBy b c n given a reply new now → n ≤ reply.steps
+no_fewer_by : (b : Bool) (c new : ControlState) (n : ℕ) (given now : List Event) (a : Answer) (reply : Reply) → n ≤ 2 ^ 64 - 1 → HandledBy b c n given a reply new now → n ≤ reply.steps
 no_fewer_by true c new n given now a reply few h = (let r = ap (λ (r : Reply). r.steps) h.reply_is in omega (arith, r))
 no_fewer_by false c new n given now a reply few h = (let r = ap (λ (r : Reply). r.steps) h.reply_is in omega (arith, r, few))
 
 -- a reply tells no fewer steps than there were
-pub no_fewer : (c new : Control) (n : ℕ) (given now : List Event) (a : Answer) (reply : Reply) → n ≤ 2 ^ 64 - 1 → Handled c n given a reply new now → n ≤ reply.steps
+pub no_fewer : (c new : ControlState) (n : ℕ) (given now : List Event) (a : Answer) (reply : Reply) → n ≤ 2 ^ 64 - 1 → Handled c n given a reply new now → n ≤ reply.steps
 no_fewer c new n given now a reply few h = no_fewer_by (is_unavailable reply.code) c new n given now a reply few h
 
 -- what was handled behind the lock is a call that was made behind the published list
@@ -168,10 +168,10 @@ pub is_made : (base told : Beginning) (old new : Core) (made more : List CallSte
     → reply.steps ≡ new.steps → length told.events ≤ 2 ^ 64 - 1 → IsMade lane (raised count 1) call figures base reply told
 is_made base told old new made more lane count figures call reply h after below list start legal refused count_is handled steps few =
     let g : Figures = figures_of figures in
-    let c : Control = state_after base in
+    let c : ControlState = state_after base in
     let k : ℕ = raised (slice_index old.calls lane) 1 in
     let number : k ≡ raised count 1 = omega (arith, h.calls lane below, count_is) in
-    let first = subst (λ (x : Control). Handled x old.steps base.events (answer_to x g lane k call) reply new.control told.events) h.control handled in
+    let first = subst (λ (x : ControlState). Handled x old.steps base.events (answer_to x g lane k call) reply new.control told.events) h.control handled in
     let second = subst (λ (n : ℕ). Handled c n base.events (answer_to c g lane k call) reply new.control told.events) h.steps first in
     let third = subst (λ (n : ℕ). Handled c (length base.events) base.events (answer_to c g lane n call) reply new.control told.events) number second in
     record {
@@ -180,11 +180,11 @@ is_made base told old new made more lane count figures call reply h after below 
       legal = legal;
       refused = refused;
       steps = omega (arith, steps, after.steps, after.each_step, few);
-      handled = subst (λ (x : Control). Handled c (length base.events) base.events (answer_to c g lane (raised count 1) call) reply x told.events) after.control third;
+      handled = subst (λ (x : ControlState). Handled c (length base.events) base.events (answer_to c g lane (raised count 1) call) reply x told.events) after.control third;
     }
 
 -- the list only goes on
-pub goes_on : (base told : Beginning) (lane k n : ℕ) (g : Figures) (call : Call) (old new : Control) (reply : Reply) → told.list ≡ base.list → told.start ≡ base.start → n ≡ length base.events → length told.events ≤ 2 ^ 64 - 1
+pub goes_on : (base told : Beginning) (lane k n : ℕ) (g : Figures) (call : Call) (old new : ControlState) (reply : Reply) → told.list ≡ base.list → told.start ≡ base.start → n ≡ length base.events → length told.events ≤ 2 ^ 64 - 1
     → Handled old n base.events (answer_to old g lane k call) reply new told.events → Begins base told
 goes_on base told lane k n g call old new reply list start is few h =
     let more = more_by (is_unavailable reply.code) old new n lane k g call base.events told.events reply is few h in

@@ -15,7 +15,7 @@ use Rattle.p4_types.specs.declared.messages.DigestEntry.{DigestEntry}
 use Rattle.p4_types.specs.declared.messages.PacketIn.{PacketIn}
 use Rattle.p4_types.specs.declared.messages.StreamMessageRequest.TheVariants as requests
 use Rattle.p4_types.specs.declared.records.Sample.{Sample}
-use Rattle.plane_spec.specs.Planes.{Control, Plane}
+use Rattle.plane_spec.specs.Planes.{ControlState, Plane}
 use Rattle.pub_snap.specs.Beginnings.{Beginning}
 use Rattle.role_arbiter.specs.State.{session_in}
 use Rattle.snap_worker.specs.Working.{state_after}
@@ -40,7 +40,7 @@ mail_lane None = None
 mail_lane (Some lane) = if nat_lt lane 32 then Some lane else None
 
 -- whether a lane has a session and may have mail
-abbrev pub is_live : Control → ℕ → Bool
+abbrev pub is_live : ControlState → ℕ → Bool
 is_live c lane = nat_lt lane 32 && is_some (session_in c.roles.sessions lane)
 
 -- whether a call with this code ended its caller's stream
@@ -78,7 +78,7 @@ abbrev pub reply_to : ℕ → Reply → Reply
 reply_to lane reply = record reply { notices = own_notices lane reply.notices }
 
 -- the lane, where it has a session and may have mail
-abbrev pub live_lane : Control → Option ℕ → Option ℕ
+abbrev pub live_lane : ControlState → Option ℕ → Option ℕ
 live_lane c None = None
 live_lane c (Some lane) = if is_live c lane then Some lane else None
 
@@ -89,13 +89,13 @@ packets_for (Some lane) packets mail = packets_to lane mail packets
 
 -- Packets for the controller of a lane, which gets them where it has a session and may have mail; where memory was missing for them, that
 -- is counted.
-abbrev pub packets_given : Control → Option ℕ → Result (List PacketIn) NoMemory → MailState Beginning → MailState Beginning
+abbrev pub packets_given : ControlState → Option ℕ → Result (List PacketIn) NoMemory → MailState Beginning → MailState Beginning
 packets_given c to (Ok packets) mail = packets_for (live_lane c to) packets mail
 packets_given c to (Err e) mail = missed mail
 
 -- A sample, if there is one, is taken to the lists of its digest, of which one that is due goes to the primary of role 0; where memory was
 -- missing for it, that is counted, and nothing else changes.
-abbrev pub IsSampled : Control → Result (Option Sample) NoMemory → ℕ → MailState Beginning → MailState Beginning → Type 0
+abbrev pub IsSampled : ControlState → Result (Option Sample) NoMemory → ℕ → MailState Beginning → MailState Beginning → Type 0
 IsSampled c (Ok None) now before after = after ≡ before
 IsSampled c (Ok (Some sample)) now before after = (done : Bool) × IsDoneOrMissed done before (sampled before (mail_lane (receiver c)) sample.digest sample.content now) after
 IsSampled c (Err e) now before after = after ≡ missed before

@@ -6,7 +6,7 @@ ghost use Rattle.pub_snap.specs.Snapshots.{all_of};
 
 use crate::naming::Naming;
 use ctl_core::Press;
-use list_types::{List, NoMemory};
+use list_types::List;
 use p4_types::events::Event;
 use plane_state::Config;
 use pub_snap::{Publisher, Told};
@@ -40,8 +40,11 @@ impl<J: Naming, R: Wait + Drop> Press for Line<J, R> {
 
     ghost opening = { λ l. opened J.start };
 
-    fn push(&mut self, events: List<Event<Config>>) -> Result<(), (List<Event<Config>>, NoMemory)> {
-        self.publisher.push(events)
+    fn push(&mut self, events: List<Event<Config>>) -> Result<(), List<Event<Config>>> {
+        match self.publisher.push(events) {
+            Ok(()) => Ok(()),
+            Err((events, _)) => Err(events),
+        }
     }
 }
 

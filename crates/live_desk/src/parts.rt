@@ -7,13 +7,10 @@ use counter_bank::{Bank, Seat};
 use ctl_core::Control;
 use lane_table::{JournalSeat, LaneSeat, LaneTable, open_lanes};
 use list_types::NoMemory;
-use p4_types::events::Start;
+use p4_types::events::{SLOT_LIMIT, Start};
 use pub_snap::{Publisher, Viewer};
 use std::alloc::Global;
 use std::sync::Wait;
-
-/// How many slots counters have.
-const SLOTS: u32 = 1_048_576;
 
 /// How many callers a desk has: lanes 0 to 31.
 const LANES: usize = 32;
@@ -42,7 +39,7 @@ pub fn open_parts<R: Wait + Drop>(
     ensures parts { IfOk result (λ r. AreParts start.now r.0 r.1) }
     ensures many { IfOk result (λ r. length r.1.viewers.items ≡ workers + 32) }
 {
-    let (bank, rest) = counter_bank::open(alloc, SLOTS)?;
+    let (bank, rest) = counter_bank::open(alloc, SLOT_LIMIT)?;
     let (table, seat, places) = open_lanes(alloc)?;
     let (publisher, viewers) = pub_snap::open(alloc, rt, start, workers + LANES)?;
     let Ok(control) = Control::open(alloc, start) else {

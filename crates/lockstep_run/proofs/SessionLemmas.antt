@@ -16,7 +16,7 @@ use Rattle.p4_types.specs.declared.tape.Who.{Who}
 use Rattle.p4_types.specs.declared.tape.Who.TheVariants.{Controller, Worker}
 use Rattle.ctl_core.specs.Core.{Core, HandledBy, IsAnswered, IsRefused, raised, replied, without_memory}
 use Rattle.plane_spec.specs.Config.{Event}
-use Rattle.plane_spec.specs.Planes.{Control, opened, apply, applied}
+use Rattle.plane_spec.specs.Planes.{ControlState, opened, apply, applied}
 use Rattle.switch_spec.specs.Answer.{Answer, called, answer, answer_to}
 use Rattle.switch_spec.specs.declared.calls.LaneCall.{LaneCall}
 use Rattle.slot_totals.specs.State.{TotalsState, figures}
@@ -28,10 +28,10 @@ use Rattle.switch_spec.proofs.Answers.{answer_to_sound}
 use Rattle.lockstep_run.specs.Session.{State, played_of, IsSession, IsHandled, IsEntered, IsCarried, IsOut, IsCompleted, TakesPacket, entry_of, PlaysCall, Plays, HasRoom}
 
 -- a run by its parts
-abbrev pub run_of : Control → ℕ → List Entry → List Record → Figures → Played
+abbrev pub run_of : ControlState → ℕ → List Entry → List Record → Figures → Played
 run_of c n journal records figures = record { control = c; steps = n; journal = journal; records = records; figures = figures }
 
-same_run : (c d : Control) (n m : ℕ) (j k : List Entry) (r q : List Record) (s t : Figures) → c ≡ d → n ≡ m → j ≡ k → r ≡ q → s ≡ t → run_of c n j r s ≡ run_of d m k q t
+same_run : (c d : ControlState) (n m : ℕ) (j k : List Entry) (r q : List Record) (s t : Figures) → c ≡ d → n ≡ m → j ≡ k → r ≡ q → s ≡ t → run_of c n j r s ≡ run_of d m k q t
 same_run c d n m j k r q s t e f g h i =
     ap (λ x. run_of x n j r s) e ∙ ap (λ x. run_of d x j r s) f ∙ ap (λ x. run_of d m x r s) g ∙ ap (λ x. run_of d m k x s) h ∙ ap (λ x. run_of d m k q x) i
 
@@ -47,7 +47,7 @@ raised_is : (count more : ℕ) → count + more ≤ 2 ^ 64 - 1 → raised count 
 raised_is count more h = omega (arith, h)
 
 -- the control state is still the one behind the events
-pub still_agrees : (b : Bool) (start old new : Control) (steps : ℕ) (given now : List Event) (a : Answer) (reply : Reply) → applied start given ≡ old
+pub still_agrees : (b : Bool) (start old new : ControlState) (steps : ℕ) (given now : List Event) (a : Answer) (reply : Reply) → applied start given ≡ old
     → HandledBy b old steps given a reply new now → applied start now ≡ new
 still_agrees true start old new steps given now a reply is h = ap (applied start) h.handed ∙ is ∙ sym h.control
 still_agrees false start old new steps given now a reply is h =

@@ -85,7 +85,7 @@ fn recorded(
     alloc: Global,
     image: &Image,
     who: Who,
-    index: u32,
+    index: u64,
     verdict: &Verdict,
 ) -> Result<Record, NoMemory>
     ensures record { IfOk result (λ r. r ≡ record_of who index image.now.steps (receiver image.now.now) verdict.now) }
@@ -109,7 +109,7 @@ fn carry(
     alloc: Global,
     image: &Image,
     who: Who,
-    index: u32,
+    index: u64,
     port: u16,
     packet: &[u8],
     scratch: &mut Scratch,
@@ -215,7 +215,7 @@ impl Session {
         requires takes { TakesPacket self.old }
         ensures { OnOk result (IsCarried who port packet.now self.old self.new) }
     {
-        let index = self.packets.count_of(who) + 1;
+        let index = u64::from(self.packets.count_of(who)) + 1;
         let outcome = carry(
             alloc,
             self.control.image(),

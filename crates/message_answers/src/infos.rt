@@ -1,5 +1,6 @@
 //! P4Infos, and what they break.
-use p4info_model::{InfoError, read_info, write_info};
+use list_types::Refusal;
+use p4info_model::{read_info, write_info};
 use row_lines::{NoAnswer, bytes, say, tell};
 use std::alloc::Global;
 
@@ -20,11 +21,11 @@ pub fn info(alloc: Global, asked: &[&str], told: &mut String) -> Result<(), NoAn
             );
             Ok(())
         }
-        Err(InfoError::Fault(fault)) => {
+        Err(Refusal::For(fault)) => {
             say(told, "rule");
             tell(told, fault.rule);
             Ok(())
         }
-        Err(InfoError::NoMemory) => Err(NoAnswer),
+        Err(Refusal::NoMemory) => Err(NoAnswer),
     }
 }

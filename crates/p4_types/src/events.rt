@@ -5,6 +5,9 @@ use crate::shared::Shared;
 use crate::table::Change;
 use list_types::List;
 
+/// How many slots of counters a switch has: as many are drawn at most, of all planes together, as long as it runs.
+pub const SLOT_LIMIT: u32 = 1_048_576;
+
 /// With what a switch starts.
 #[derive(Clone, Copy)]
 pub struct Start {

@@ -60,7 +60,7 @@ pub struct Sample {
 #[derive(Drop)]
 pub struct Record {
     pub who: Who,
-    pub index: u32,
+    pub index: u64,
     pub steps: u64,
     pub fate: Fate,
     pub outputs: List<Output>,

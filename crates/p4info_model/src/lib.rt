@@ -17,5 +17,5 @@ mod write;
 
 pub use flaw::InfoFault;
 pub use read::read_info;
-pub use valid::{InfoError, P4Info};
+pub use valid::P4Info;
 pub use write::write_info;

@@ -4,31 +4,13 @@ ghost use Rattle.std.specs.Prelude.{◌≡◌, IfSome, option_copied};
 use crate::flaw::InfoFault;
 use crate::index::Index;
 use crate::{flaw, places, resolve};
-use list_types::NoMemory;
+use list_types::Refusal;
 use p4_types::info::{
     Action, ActionProfile, ControllerHeader, Counter, Digest, DirectCounter, Info, Table,
 };
 use p4_types::p4info;
 use std::alloc::Global;
 use std::marker::Model;
-
-/// Why there is no P4Info.
-#[derive(Clone, Copy, Debug)]
-pub enum InfoError {
-    NoMemory,
-    Fault(InfoFault),
-}
-
-impl From<NoMemory> for InfoError {
-    ghost use Rattle.std.specs.Prelude.{◌≡◌};
-    ghost use Rattle.p4info_model.specs.declared.valid.InfoError.TheVariants as info_error;
-
-    ghost from_gives = { λ _ e. e ≡ info_error.NoMemory };
-
-    fn from(_: NoMemory) -> InfoError {
-        InfoError::NoMemory
-    }
-}
 
 /// A valid P4Info, whose objects are looked up by their ids. A contract sees its objects.
 #[derive(Drop)]
@@ -56,11 +38,11 @@ impl P4Info {
 
     /// The P4Info of a message that breaks none of the rules I2 to I9, or the first that it breaks.
     /// An object without a preamble has id 0, which breaks I2.
-    pub fn of(alloc: Global, message: p4info::P4Info) -> Result<P4Info, InfoError>
+    pub fn of(alloc: Global, message: p4info::P4Info) -> Result<P4Info, Refusal<InfoFault>>
         ensures { Accepts message result }
     {
         match flaw::flaw(alloc, &message)? {
-            Some(rule) => Err(InfoError::Fault(InfoFault { rule })),
+            Some(rule) => Err(Refusal::For(InfoFault { rule })),
             None => {
                 let info = resolve::info_of(alloc, message)?;
                 let index = Index::of(alloc, &info)?;

@@ -1,5 +1,7 @@
 -- A tape within the limits is reported, unless the source or the sink fails or memory is out.
 use Rattle.std.proofs.Common.{◌≡◌, ℕ, ◌≤◌, List, length, Option, None, Some, Ok, Err, refl, ap, ◌∙◌, sym, subst, ◌⊎◌, inl, inr, arith, length-append}
+use Rattle.list_types.specs.declared.memory.Refusal.{Refusal}
+use Rattle.list_types.specs.declared.memory.Refusal.TheVariants as refusals
 use Rattle.sw_edge.proofs.ToldLaws.{Consumes-all}
 use Rattle.sw_edge.specs.Counts.{Rose}
 use Rattle.sw_edge.specs.Told.{Consumes}
@@ -26,7 +28,7 @@ taken_within : (bytes : List ℕ) (new : Option (List ℕ)) (taken : List ℕ) �
 taken_within bytes None taken consumed = absurd consumed
 taken_within bytes (Some rest) taken consumed = omega (arith, ap length consumed, length-append taken rest)
 
-refuted : (bytes taken : List ℕ) (items : List TapeItem) (new : Option (List ℕ)) (before now : ℕ) (fault : TapeFault) (ended : Ended)
+refuted : (bytes taken : List ℕ) (items : List TapeItem) (new : Option (List ℕ)) (before now : ℕ) (fault : Refusal TapeFault) (ended : Ended)
     → tape_at MAX_RECORDS bytes ≡ Ok items → length bytes ≤ MAX_TAPE → Consumes (Some bytes) new taken → (Rose before now → ⊥)
     → EndsSo ended new before now → EndsWithin ended taken → outcome taken ended ≡ Err fault → ⊥
 refuted bytes taken items new before now fault AtEnd read size consumed sound so within same =
@@ -39,7 +41,7 @@ refuted bytes taken items new before now _ AtLimit read size consumed sound so w
     absurd (omega (arith, taken_within bytes new taken consumed, size, within))
 
 -- such a tape is not answered with a fault but that of the source
-pub not_refused : (left new : Option (List ℕ)) (before now : ℕ) (fault : TapeFault) → HoldsTape left → (Rose before now → ⊥)
+pub not_refused : (left new : Option (List ℕ)) (before now : ℕ) (fault : Refusal TapeFault) → HoldsTape left → (Rose before now → ⊥)
     → (taken : List ℕ) → Consumes left new taken → IsOutcome (Err fault) taken new before now → ⊥
 not_refused left new before now fault holds sound taken consumed h =
     let P : Option (List ℕ) → Type 0 = λ l. Consumes l new taken in
@@ -51,13 +53,13 @@ pub complete : (status : Status) (mode : Mode) (start : Start) (old new : Stream
     → (Rose old.read_faults new.read_faults → ⊥) → (Rose old.write_faults new.write_faults → ⊥) → (status_number status ≡ 0) ⊎ (status_number status ≡ 3)
 complete statuses.Done mode start old new ends holds reads writes = inl refl
 complete (statuses.NotATape place) mode start old new ends holds reads writes =
-    let read = ends.«because».1 in absurd (not_refused old.left new.left _ _ (faults.Bad place) holds reads read.taken read.from.consumed read.answers)
+    let read = ends.«because».1 in absurd (not_refused old.left new.left _ _ (refusals.For (faults.Bad place)) holds reads read.taken read.from.consumed read.answers)
 complete statuses.WordsRefused mode start old new ends holds reads writes = absurd ends
 complete statuses.NoMemory mode start old new ends holds reads writes = inr refl
 complete statuses.ReadFault mode start old new ends holds reads writes = absurd (reads ends.«because».0)
 complete statuses.WriteFault mode start old new ends holds reads writes = absurd (writes ends.fault)
 complete statuses.TooLong mode start old new ends holds reads writes =
-    let read = ends.«because».1 in absurd (not_refused old.left new.left _ _ faults.TooLong holds reads read.taken read.from.consumed read.answers)
+    let read = ends.«because».1 in absurd (not_refused old.left new.left _ _ (refusals.For faults.TooLong) holds reads read.taken read.from.consumed read.answers)
 complete statuses.NetFault mode start old new ends holds reads writes = absurd ends
 complete statuses.Refused mode start old new ends holds reads writes = absurd ends
 

@@ -1,5 +1,6 @@
 -- What the exit status of a run says, from what its job says of its answer.
 use Rattle.std.proofs.Common.{◌≡◌, ◌≢◌, ℕ, ◌<◌, ◌≤◌, List, [], length, Option, None, Some, refl, ap, ◌∙◌, sym, subst, ◌⊎◌, inl, inr, arith}
+use Rattle.list_types.specs.declared.memory.Refusal.TheVariants as refusals
 use Rattle.sw_edge.specs.Counts.{HasCause, Rose}
 use Rattle.sw_edge.specs.Told.{Consumes, Keeps}
 use Rattle.p4_types.specs.declared.events.Start.{Start}
@@ -317,12 +318,12 @@ pub first : (o : Option Job) (status : Status) (words : List (List ℕ)) (old ne
     → Misreads (status_number status) words old new ⊎ Stops (status_number status) words old new
 first None status words old new is ends u = absurd (not_both (status_number status) u (other_number (status_number status) (inr (inl (ap status_number ends.0)))))
 first (Some (jobs.Replay mode start)) statuses.Done words old new is ends u = absurd (not_both 0 u (other_number 0 (inl refl)))
-first (Some (jobs.Replay mode start)) (statuses.NotATape place) words old new is ends u = inl (record { mode = mode; start = start; command = is; fault = (faults.Bad place); number_is = refl; read = ends.«because».1 })
+first (Some (jobs.Replay mode start)) (statuses.NotATape place) words old new is ends u = inl (record { mode = mode; start = start; command = is; fault = (refusals.For (faults.Bad place)); number_is = refl; read = ends.«because».1 })
 first (Some (jobs.Replay mode start)) statuses.WordsRefused words old new is ends u = absurd (not_both 2 u (other_number 2 (inr (inl refl))))
 first (Some (jobs.Replay mode start)) statuses.NoMemory words old new is ends u = absurd (not_both 3 u (other_number 3 (inr (inr (inl refl)))))
-first (Some (jobs.Replay mode start)) statuses.ReadFault words old new is ends u = inl (record { mode = mode; start = start; command = is; fault = faults.Fault; number_is = refl; read = ends.«because».1 })
+first (Some (jobs.Replay mode start)) statuses.ReadFault words old new is ends u = inl (record { mode = mode; start = start; command = is; fault = (refusals.For faults.Fault); number_is = refl; read = ends.«because».1 })
 first (Some (jobs.Replay mode start)) statuses.WriteFault words old new is ends u = absurd (not_both 5 u (other_number 5 (inr (inr (inr (inl refl))))))
-first (Some (jobs.Replay mode start)) statuses.TooLong words old new is ends u = inl (record { mode = mode; start = start; command = is; fault = faults.TooLong; number_is = refl; read = ends.«because».1 })
+first (Some (jobs.Replay mode start)) statuses.TooLong words old new is ends u = inl (record { mode = mode; start = start; command = is; fault = (refusals.For faults.TooLong); number_is = refl; read = ends.«because».1 })
 first (Some (jobs.Replay mode start)) statuses.NetFault words old new is ends u = absurd ends
 first (Some (jobs.Replay mode start)) statuses.Refused words old new is ends u = absurd (not_both 8 u (other_number 8 (inr (inr (inr (inr refl))))))
 first (Some jobs.Check) statuses.Done words old new is ends u = absurd (not_both 0 u (other_number 0 (inl refl)))

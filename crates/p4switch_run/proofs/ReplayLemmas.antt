@@ -1,6 +1,8 @@
 -- What a replay that wrote its report says.
 use Rattle.std.proofs.Common.{◌≡◌, ℕ, false, List, refl, ap, ◌∙◌, sym, subst}
 use Rattle.std.specs.List.{filter_map, list_any}
+use Rattle.list_types.specs.declared.memory.Refusal.{Refusal}
+use Rattle.list_types.specs.declared.memory.Refusal.TheVariants as refusals
 use Rattle.p4_types.specs.declared.events.Start.{Start}
 use Rattle.p4_types.specs.declared.journal.Report.{Report}
 use Rattle.replay_run.specs.Running.{IsRunReport}
@@ -21,12 +23,12 @@ use Rattle.p4switch_run.specs.Command.{fault_status}
 use Rattle.p4switch_run.specs.Replay.{Streams, ReadWith, Answers}
 
 -- a tape that is not read is answered by its fault, and nothing is written
-pub not_read : (mode : Mode) (start : Start) (fault : TapeFault) (old new : Streams) → Keeps old.sent new.sent → new.write_faults ≡ old.write_faults → ReadWith fault old new
-    → (fault ≡ faults.NoMemory → HidesNothing old.left new.left old.read_ends new.read_ends) → Answers mode start (fault_status fault) old new
-not_read mode start (faults.Bad place) old new kept sound read cut = record { kept = kept; sound_sink = sound; «because» = (bad_at old.left new.left old.read_faults new.read_faults place read, read) }
-not_read mode start faults.TooLong old new kept sound read cut = record { kept = kept; sound_sink = sound; «because» = (too_long old.left new.left old.read_faults new.read_faults read, read) }
-not_read mode start faults.Fault old new kept sound read cut = record { kept = kept; sound_sink = sound; «because» = (fault_rose old.left new.left old.read_faults new.read_faults read, read) }
-not_read mode start faults.NoMemory old new kept sound read cut =
+pub not_read : (mode : Mode) (start : Start) (fault : Refusal TapeFault) (old new : Streams) → Keeps old.sent new.sent → new.write_faults ≡ old.write_faults → ReadWith fault old new
+    → (fault ≡ refusals.NoMemory → HidesNothing old.left new.left old.read_ends new.read_ends) → Answers mode start (fault_status fault) old new
+not_read mode start (refusals.For (faults.Bad place)) old new kept sound read cut = record { kept = kept; sound_sink = sound; «because» = (bad_at old.left new.left old.read_faults new.read_faults place read, read) }
+not_read mode start (refusals.For faults.TooLong) old new kept sound read cut = record { kept = kept; sound_sink = sound; «because» = (too_long old.left new.left old.read_faults new.read_faults read, read) }
+not_read mode start (refusals.For faults.Fault) old new kept sound read cut = record { kept = kept; sound_sink = sound; «because» = (fault_rose old.left new.left old.read_faults new.read_faults read, read) }
+not_read mode start refusals.NoMemory old new kept sound read cut =
     record { kept = kept; sound_sink = sound; «because» = record { unfinished = unfinished old.left new.left old.read_faults new.read_faults read; hides_nothing = cut refl } }
 
 -- the text of a run of a tape's items, one after the other

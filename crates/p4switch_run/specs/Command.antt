@@ -1,6 +1,8 @@
 -- What the words of the command line ask for, and the lines on standard error (this project's profile).
 use Rattle.std.specs.Prelude.{◌≡◌, ℕ, List, [], ◌++◌, Some, codes}
 use Rattle.std.specs.Fmt.{decimal}
+use Rattle.list_types.specs.declared.memory.Refusal.{Refusal}
+use Rattle.list_types.specs.declared.memory.Refusal.TheVariants as refusals
 use Rattle.p4_types.specs.declared.events.Start.{Start}
 use Rattle.tape_form.specs.declared.fault.TapeFault.{TapeFault}
 use Rattle.tape_form.specs.declared.fault.TapeFault.TheVariants as faults
@@ -43,11 +45,11 @@ status_number statuses.NetFault = 7
 status_number statuses.Refused = 8
 
 -- how a run ends whose tape was not read
-abbrev pub fault_status : TapeFault → Status
-fault_status (faults.Bad place) = statuses.NotATape place
-fault_status faults.TooLong = statuses.TooLong
-fault_status faults.Fault = statuses.ReadFault
-fault_status faults.NoMemory = statuses.NoMemory
+abbrev pub fault_status : Refusal TapeFault → Status
+fault_status (refusals.For (faults.Bad place)) = statuses.NotATape place
+fault_status (refusals.For faults.TooLong) = statuses.TooLong
+fault_status (refusals.For faults.Fault) = statuses.ReadFault
+fault_status refusals.NoMemory = statuses.NoMemory
 
 -- how a run ends that served
 abbrev pub end_status : ServeEnd → Status

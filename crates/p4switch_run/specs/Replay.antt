@@ -1,5 +1,8 @@
 -- What each answer of a replay says of what was read and written.
 use Rattle.std.specs.Prelude.{◌≡◌, ℕ, List, Option, Err}
+use Rattle.list_types.specs.declared.memory.Refusal.{Refusal}
+use Rattle.list_types.specs.declared.memory.Refusal.TheVariants as refusals
+use Rattle.tape_form.specs.declared.fault.TapeFault.{TapeFault}
 use Rattle.sw_edge.specs.Counts.{Rose}
 use Rattle.sw_edge.specs.Told.{Keeps, Appends, AppendsPrefix}
 use Rattle.p4_types.specs.declared.events.Start.{Start}
@@ -53,7 +56,7 @@ pub record IsCutShort (mode : Mode) (start : Start) (old new : Streams) : Type 0
   pub fault : Rose old.write_faults new.write_faults
 
 -- the reading of a tape from the source was answered so
-abbrev pub ReadWith : faults.the_data → Streams → Streams → Type 0
+abbrev pub ReadWith : Refusal TapeFault → Streams → Streams → Type 0
 ReadWith fault old new = IsReadFrom old.left new.left old.read_faults new.read_faults (Err fault)
 
 -- nothing was written, for this cause, and the sink has not failed
@@ -72,11 +75,11 @@ pub record LacksMemory (old new : Streams) : Type 0 where
 -- a limit and a fault, in the order of the bytes.
 abbrev pub Answers : Mode → Start → Status → Streams → Streams → Type 0
 Answers mode start statuses.Done old new = IsWritten mode start old new
-Answers mode start (statuses.NotATape place) old new = Nothing old new (IsBadAt old.left new.left place × ReadWith (faults.Bad place) old new)
+Answers mode start (statuses.NotATape place) old new = Nothing old new (IsBadAt old.left new.left place × ReadWith (refusals.For (faults.Bad place)) old new)
 Answers mode start statuses.WordsRefused old new = ⊥
 Answers mode start statuses.NoMemory old new = Nothing old new (LacksMemory old new)
-Answers mode start statuses.ReadFault old new = Nothing old new (Rose old.read_faults new.read_faults × ReadWith faults.Fault old new)
+Answers mode start statuses.ReadFault old new = Nothing old new (Rose old.read_faults new.read_faults × ReadWith (refusals.For faults.Fault) old new)
 Answers mode start statuses.WriteFault old new = IsCutShort mode start old new
-Answers mode start statuses.TooLong old new = Nothing old new (IsTooLong old.left new.left × ReadWith faults.TooLong old new)
+Answers mode start statuses.TooLong old new = Nothing old new (IsTooLong old.left new.left × ReadWith (refusals.For faults.TooLong) old new)
 Answers mode start statuses.NetFault old new = ⊥
 Answers mode start statuses.Refused old new = ⊥

@@ -1,5 +1,6 @@
 -- What the exit status of a run says.
 use Rattle.std.specs.Prelude.{◌≡◌, ℕ, ◌≤◌, ◌⊎◌, List, length, Option, None, Some}
+use Rattle.list_types.specs.declared.memory.Refusal.{Refusal}
 use Rattle.p4_types.specs.declared.events.Start.{Start}
 use Rattle.sw_edge.specs.Counts.{HasCause, Rose, StaysUnless}
 use Rattle.sw_edge.specs.declared.answers.Sent.{Sent}
@@ -102,7 +103,7 @@ pub record Misreads (number : ℕ) (words : List (List ℕ)) (old new : Streams)
   pub mode : Mode
   pub start : Start
   pub command : IsReplay mode start words
-  pub fault : TapeFault
+  pub fault : Refusal TapeFault
   pub number_is : number ≡ status_number (fault_status fault)
   pub read : ReadWith fault old new
 

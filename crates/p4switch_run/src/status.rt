@@ -1,6 +1,7 @@
 //! How a run of the program ends.
 ghost use Rattle.std.specs.Prelude.{◌≡◌};
 
+use list_types::Refusal;
 use serve_run::ServeEnd;
 use tape_form::TapeFault;
 
@@ -31,14 +32,14 @@ impl Status {
     ghost use Rattle.p4switch_run.specs.Command.{status_number, fault_status, end_status};
 
     /// How a run ends whose tape was not read.
-    pub fn of_fault(fault: TapeFault) -> Status
+    pub fn of_fault(fault: Refusal<TapeFault>) -> Status
         ensures { result ≡ fault_status fault }
     {
         match fault {
-            TapeFault::Bad(place) => Status::NotATape(place),
-            TapeFault::TooLong => Status::TooLong,
-            TapeFault::Fault => Status::ReadFault,
-            TapeFault::NoMemory => Status::NoMemory,
+            Refusal::For(TapeFault::Bad(place)) => Status::NotATape(place),
+            Refusal::For(TapeFault::TooLong) => Status::TooLong,
+            Refusal::For(TapeFault::Fault) => Status::ReadFault,
+            Refusal::NoMemory => Status::NoMemory,
         }
     }
 

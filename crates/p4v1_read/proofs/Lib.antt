@@ -1,1 +1,2 @@
 pub mod FieldsSpelled
+pub mod PackedIds

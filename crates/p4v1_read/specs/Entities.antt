@@ -22,7 +22,8 @@ use Rattle.p4_types.specs.declared.messages.Entity.TheVariants as entities
 use Rattle.p4_types.specs.declared.messages.FieldMatchKind.TheVariants as kinds
 use Rattle.p4_types.specs.declared.messages.TableAction.TheVariants as actions
 use Rattle.wire_fields.specs.Fields.{WireField}
-use Rattle.wire_messages.specs.Message.{◌>>=◌, uint32_at, uint64_at, int32_at, int64_at, bool_at, bytes_at, message_at, choice_at}
+use Rattle.list_types.specs.Options.{◌>>=◌}
+use Rattle.wire_messages.specs.Message.{uint32_at, uint64_at, int32_at, int64_at, bool_at, bytes_at, message_at, choice_at}
 use Rattle.p4v1_read.specs.Nested.{one_at, all_at, member_at, opaque_at, optional}
 
 -- Action.Param

@@ -5,3 +5,4 @@ pub mod Requests
 pub mod Stream
 pub mod Calls
 pub mod P4Infos
+pub mod RoleConfigs

@@ -3,7 +3,7 @@ use Rattle.std.specs.Prelude.{◌≡◌, ◌↔◌, ℕ, zero, suc, List, [], �
 use Rattle.std.specs.Result.{result_ok}
 use Rattle.wire_fields.specs.Fields.{WireField, Spells}
 use Rattle.wire_fields.specs.Reading.{field_at}
-use Rattle.wire_messages.specs.Message.{◌>>=◌}
+use Rattle.list_types.specs.Options.{◌>>=◌}
 
 -- the fields that the bytes are, one after another, in at most so many steps
 unfoldable pub fields_in : ℕ → List ℕ → Option (List WireField)

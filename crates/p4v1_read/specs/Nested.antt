@@ -2,7 +2,8 @@
 use Rattle.std.specs.Prelude.{ℕ, Bool, List, Option, Some, None, is_some}
 use Rattle.std.specs.Option.{option_map}
 use Rattle.wire_fields.specs.Fields.{WireField}
-use Rattle.wire_messages.specs.Message.{◌>>=◌, each, message_at, messages_at}
+use Rattle.list_types.specs.Options.{◌>>=◌}
+use Rattle.wire_messages.specs.Message.{each, message_at, messages_at}
 use Rattle.p4v1_read.specs.MessageFields.{fields_of}
 
 -- a message in bytes, by what its fields say

@@ -15,7 +15,8 @@ use Rattle.p4_types.specs.declared.p4info.Param.{Param}
 use Rattle.p4_types.specs.declared.p4info.Preamble.{Preamble}
 use Rattle.p4_types.specs.declared.p4info.Table.{Table}
 use Rattle.wire_fields.specs.Fields.{WireField}
-use Rattle.wire_messages.specs.Message.{◌>>=◌, uint32_at, int32_at, int64_at, bool_at, text_at, texts_at, uint32s_at, message_at}
+use Rattle.list_types.specs.Options.{◌>>=◌}
+use Rattle.wire_messages.specs.Message.{uint32_at, int32_at, int64_at, bool_at, text_at, texts_at, uint32s_at, message_at}
 use Rattle.p4v1_read.specs.Nested.{one_at, all_at}
 
 -- Preamble

@@ -10,7 +10,8 @@ use Rattle.p4_types.specs.declared.messages.Uint128.{Uint128}
 use Rattle.p4_types.specs.declared.messages.Update.{Update}
 use Rattle.p4_types.specs.declared.messages.WriteRequest.{WriteRequest}
 use Rattle.wire_fields.specs.Fields.{WireField}
-use Rattle.wire_messages.specs.Message.{◌>>=◌, uint64_at, int32_at, bytes_at, message_at, only_known}
+use Rattle.list_types.specs.Options.{◌>>=◌}
+use Rattle.wire_messages.specs.Message.{uint64_at, int32_at, bytes_at, message_at, only_known}
 use Rattle.p4v1_read.specs.Nested.{one_at, all_at}
 use Rattle.p4v1_read.specs.Entities.{entity_of}
 

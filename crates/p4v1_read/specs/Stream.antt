@@ -10,7 +10,8 @@ use Rattle.p4_types.specs.declared.messages.Status.{Status}
 use Rattle.p4_types.specs.declared.messages.StreamMessageRequest.{StreamMessageRequest}
 use Rattle.p4_types.specs.declared.messages.StreamMessageRequest.TheVariants as members
 use Rattle.wire_fields.specs.Fields.{WireField}
-use Rattle.wire_messages.specs.Message.{◌>>=◌, uint32_at, uint64_at, int32_at, bytes_at, text_at, choice_at, only_known}
+use Rattle.list_types.specs.Options.{◌>>=◌}
+use Rattle.wire_messages.specs.Message.{uint32_at, uint64_at, int32_at, bytes_at, text_at, choice_at, only_known}
 use Rattle.p4v1_read.specs.Nested.{one_at, all_at, member_at, optional}
 use Rattle.p4v1_read.specs.Requests.{election_id_at}
 

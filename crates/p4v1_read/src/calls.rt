@@ -4,13 +4,13 @@ ghost use Rattle.p4v1_read.specs.Calls.{call_by, call_of};
 ghost use Rattle.wire_messages.specs.Answers.{ReadsInMemory};
 
 use crate::reading;
-use list_types::NoMemory;
+use list_types::{NoMemory, Refusal};
 use p4_types::calls::{Call, Method};
 use std::alloc::Global;
-use wire_messages::ReadError;
+use wire_messages::Unreadable;
 
 #[tactic(auto, unfolding(crate::specs::Calls::call_by))]
-fn call(alloc: Global, method: Method, bytes: &[u8]) -> Result<Call, ReadError>
+fn call(alloc: Global, method: Method, bytes: &[u8]) -> Result<Call, Refusal<Unreadable>>
     ensures { ReadsInMemory (λ x. x) result (call_by method bytes.now) }
 {
     match method {
@@ -33,7 +33,7 @@ pub fn read_call(alloc: Global, method: Method, bytes: &[u8]) -> Result<Call, No
 {
     match call(alloc, method, bytes) {
         Ok(call) => Ok(call),
-        Err(ReadError::Unreadable) => Ok(Call::Unreadable(method)),
-        Err(ReadError::NoMemory) => Err(NoMemory),
+        Err(Refusal::For(_)) => Ok(Call::Unreadable(method)),
+        Err(Refusal::NoMemory) => Err(NoMemory),
     }
 }

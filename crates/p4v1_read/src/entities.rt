@@ -6,19 +6,20 @@ ghost use Rattle.p4v1_read.specs.Nested.{member_at};
 
 use crate::reading;
 use crate::reading::Readable;
+use list_types::Refusal;
 use p4_types::messages::{
     Action, ActionProfileAction, ActionProfileActionSet, ActionProfileGroup, ActionProfileMember,
     CounterData, CounterEntry, DigestConfig, DigestEntry, DirectCounterEntry, Entity, FieldMatch,
     FieldMatchKind, Index, Member, Param, TableAction, TableEntry,
 };
 use std::alloc::Global;
-use wire_messages::{Message, ReadError};
+use wire_messages::{Message, Unreadable};
 
 impl Readable for Param {
     ghost meaning = { param_of };
 
     #[tactic(auto, unfolding(crate::specs::Entities::param_of))]
-    fn read(alloc: Global, message: &Message<'_>) -> Result<Param, ReadError> {
+    fn read(alloc: Global, message: &Message<'_>) -> Result<Param, Refusal<Unreadable>> {
         let param_id = message.uint32(2)?;
         let value = reading::bytes(alloc, message, 3)?;
         Ok(Param { param_id, value })
@@ -29,7 +30,7 @@ impl Readable for Action {
     ghost meaning = { action_of };
 
     #[tactic(auto, unfolding(crate::specs::Entities::action_of))]
-    fn read(alloc: Global, message: &Message<'_>) -> Result<Action, ReadError> {
+    fn read(alloc: Global, message: &Message<'_>) -> Result<Action, Refusal<Unreadable>> {
         let action_id = message.uint32(1)?;
         let params = reading::all(alloc, message, 4)?;
         Ok(Action { action_id, params })
@@ -37,7 +38,7 @@ impl Readable for Action {
 }
 
 #[tactic(auto, unfolding(crate::specs::Nested::member_at, crate::specs::Entities::exact_of))]
-fn exact(alloc: Global, message: &Message<'_>) -> Result<FieldMatchKind, ReadError>
+fn exact(alloc: Global, message: &Message<'_>) -> Result<FieldMatchKind, Refusal<Unreadable>>
     ensures { ReadsInMemory (λ x. x) result (member_at exact_of 2 message.now) }
 {
     let inside = reading::inside(alloc, message, 2)?;
@@ -46,7 +47,7 @@ fn exact(alloc: Global, message: &Message<'_>) -> Result<FieldMatchKind, ReadErr
 }
 
 #[tactic(auto, unfolding(crate::specs::Nested::member_at, crate::specs::Entities::ternary_of))]
-fn ternary(alloc: Global, message: &Message<'_>) -> Result<FieldMatchKind, ReadError>
+fn ternary(alloc: Global, message: &Message<'_>) -> Result<FieldMatchKind, Refusal<Unreadable>>
     ensures { ReadsInMemory (λ x. x) result (member_at ternary_of 3 message.now) }
 {
     let inside = reading::inside(alloc, message, 3)?;
@@ -56,7 +57,7 @@ fn ternary(alloc: Global, message: &Message<'_>) -> Result<FieldMatchKind, ReadE
 }
 
 #[tactic(auto, unfolding(crate::specs::Nested::member_at, crate::specs::Entities::lpm_of))]
-fn lpm(alloc: Global, message: &Message<'_>) -> Result<FieldMatchKind, ReadError>
+fn lpm(alloc: Global, message: &Message<'_>) -> Result<FieldMatchKind, Refusal<Unreadable>>
     ensures { ReadsInMemory (λ x. x) result (member_at lpm_of 4 message.now) }
 {
     let inside = reading::inside(alloc, message, 4)?;
@@ -66,7 +67,7 @@ fn lpm(alloc: Global, message: &Message<'_>) -> Result<FieldMatchKind, ReadError
 }
 
 #[tactic(auto, unfolding(crate::specs::Nested::member_at, crate::specs::Entities::range_of))]
-fn range(alloc: Global, message: &Message<'_>) -> Result<FieldMatchKind, ReadError>
+fn range(alloc: Global, message: &Message<'_>) -> Result<FieldMatchKind, Refusal<Unreadable>>
     ensures { ReadsInMemory (λ x. x) result (member_at range_of 6 message.now) }
 {
     let inside = reading::inside(alloc, message, 6)?;
@@ -76,7 +77,7 @@ fn range(alloc: Global, message: &Message<'_>) -> Result<FieldMatchKind, ReadErr
 }
 
 #[tactic(auto, unfolding(crate::specs::Nested::member_at, crate::specs::Entities::optional_of))]
-fn optional(alloc: Global, message: &Message<'_>) -> Result<FieldMatchKind, ReadError>
+fn optional(alloc: Global, message: &Message<'_>) -> Result<FieldMatchKind, Refusal<Unreadable>>
     ensures { ReadsInMemory (λ x. x) result (member_at optional_of 7 message.now) }
 {
     let inside = reading::inside(alloc, message, 7)?;
@@ -89,7 +90,7 @@ fn kind_of_member(
     alloc: Global,
     message: &Message<'_>,
     member: u32,
-) -> Result<FieldMatchKind, ReadError>
+) -> Result<FieldMatchKind, Refusal<Unreadable>>
     ensures { ReadsInMemory (λ x. x) result (kind_by message.now member) }
 {
     match member {
@@ -98,12 +99,12 @@ fn kind_of_member(
         4 => lpm(alloc, message),
         6 => range(alloc, message),
         7 => optional(alloc, message),
-        _ => Err(ReadError::Unreadable),
+        _ => Err(Refusal::For(Unreadable)),
     }
 }
 
 #[tactic(auto, unfolding(crate::specs::Entities::kind_of))]
-fn kind(alloc: Global, message: &Message<'_>) -> Result<Option<FieldMatchKind>, ReadError>
+fn kind(alloc: Global, message: &Message<'_>) -> Result<Option<FieldMatchKind>, Refusal<Unreadable>>
     ensures { ReadsInMemory (λ x. x) result (kind_of message.now) }
 {
     match message.choice(&[2, 3, 4, 6, 7])? {
@@ -116,7 +117,7 @@ impl Readable for FieldMatch {
     ghost meaning = { field_match_of };
 
     #[tactic(auto, unfolding(crate::specs::Entities::field_match_of))]
-    fn read(alloc: Global, message: &Message<'_>) -> Result<FieldMatch, ReadError> {
+    fn read(alloc: Global, message: &Message<'_>) -> Result<FieldMatch, Refusal<Unreadable>> {
         let field_id = message.uint32(1)?;
         let kind = kind(alloc, message)?;
         Ok(FieldMatch { field_id, kind })
@@ -127,7 +128,10 @@ impl Readable for ActionProfileAction {
     ghost meaning = { profile_action_of };
 
     #[tactic(auto, unfolding(crate::specs::Entities::profile_action_of))]
-    fn read(alloc: Global, message: &Message<'_>) -> Result<ActionProfileAction, ReadError> {
+    fn read(
+        alloc: Global,
+        message: &Message<'_>,
+    ) -> Result<ActionProfileAction, Refusal<Unreadable>> {
         let action = reading::one(alloc, message, 1)?;
         let weight = message.int32(2)?;
         let watch = message.uint32(3)?;
@@ -145,7 +149,10 @@ impl Readable for ActionProfileActionSet {
     ghost meaning = { action_set_of };
 
     #[tactic(auto, unfolding(crate::specs::Entities::action_set_of))]
-    fn read(alloc: Global, message: &Message<'_>) -> Result<ActionProfileActionSet, ReadError> {
+    fn read(
+        alloc: Global,
+        message: &Message<'_>,
+    ) -> Result<ActionProfileActionSet, Refusal<Unreadable>> {
         let action_profile_actions = reading::all(alloc, message, 1)?;
         Ok(ActionProfileActionSet {
             action_profile_actions,
@@ -154,7 +161,11 @@ impl Readable for ActionProfileActionSet {
 }
 
 #[tactic(auto, unfolding(crate::specs::Entities::table_action_by))]
-fn table_action(alloc: Global, message: &Message<'_>, member: u32) -> Result<TableAction, ReadError>
+fn table_action(
+    alloc: Global,
+    message: &Message<'_>,
+    member: u32,
+) -> Result<TableAction, Refusal<Unreadable>>
     ensures { ReadsInMemory (λ x. x) result (table_action_by message.now member) }
 {
     match member {
@@ -162,7 +173,7 @@ fn table_action(alloc: Global, message: &Message<'_>, member: u32) -> Result<Tab
         2 => Ok(TableAction::ActionProfileMemberId(message.uint32(2)?)),
         3 => Ok(TableAction::ActionProfileGroupId(message.uint32(3)?)),
         4 => Ok(TableAction::ActionProfileActionSet(reading::member(alloc, message, 4)?)),
-        _ => Err(ReadError::Unreadable),
+        _ => Err(Refusal::For(Unreadable)),
     }
 }
 
@@ -170,7 +181,10 @@ impl Readable for Option<TableAction> {
     ghost meaning = { table_action_of };
 
     #[tactic(auto, unfolding(crate::specs::Entities::table_action_of))]
-    fn read(alloc: Global, message: &Message<'_>) -> Result<Option<TableAction>, ReadError> {
+    fn read(
+        alloc: Global,
+        message: &Message<'_>,
+    ) -> Result<Option<TableAction>, Refusal<Unreadable>> {
         match message.choice(&[1, 2, 3, 4])? {
             Some(member) => Ok(Some(table_action(alloc, message, member)?)),
             None => Ok(None),
@@ -182,7 +196,7 @@ impl Readable for CounterData {
     ghost meaning = { counter_data_of };
 
     #[tactic(auto, unfolding(crate::specs::Entities::counter_data_of))]
-    fn read(alloc: Global, message: &Message<'_>) -> Result<CounterData, ReadError> {
+    fn read(alloc: Global, message: &Message<'_>) -> Result<CounterData, Refusal<Unreadable>> {
         let byte_count = message.int64(1)?;
         let packet_count = message.int64(2)?;
         Ok(CounterData {
@@ -196,7 +210,7 @@ impl Readable for TableEntry {
     ghost meaning = { table_entry_of };
 
     #[tactic(auto, unfolding(crate::specs::Entities::table_entry_of))]
-    fn read(alloc: Global, message: &Message<'_>) -> Result<TableEntry, ReadError> {
+    fn read(alloc: Global, message: &Message<'_>) -> Result<TableEntry, Refusal<Unreadable>> {
         let table_id = message.uint32(1)?;
         let matches = reading::all(alloc, message, 2)?;
         let action = reading::one(alloc, message, 3)?;
@@ -226,7 +240,10 @@ impl Readable for ActionProfileMember {
     ghost meaning = { profile_member_of };
 
     #[tactic(auto, unfolding(crate::specs::Entities::profile_member_of))]
-    fn read(alloc: Global, message: &Message<'_>) -> Result<ActionProfileMember, ReadError> {
+    fn read(
+        alloc: Global,
+        message: &Message<'_>,
+    ) -> Result<ActionProfileMember, Refusal<Unreadable>> {
         let action_profile_id = message.uint32(1)?;
         let member_id = message.uint32(2)?;
         let action = reading::one(alloc, message, 3)?;
@@ -242,7 +259,7 @@ impl Readable for Member {
     ghost meaning = { group_member_of };
 
     #[tactic(auto, unfolding(crate::specs::Entities::group_member_of))]
-    fn read(alloc: Global, message: &Message<'_>) -> Result<Member, ReadError> {
+    fn read(alloc: Global, message: &Message<'_>) -> Result<Member, Refusal<Unreadable>> {
         let member_id = message.uint32(1)?;
         let weight = message.int32(2)?;
         let watch = message.uint32(3)?;
@@ -260,7 +277,10 @@ impl Readable for ActionProfileGroup {
     ghost meaning = { profile_group_of };
 
     #[tactic(auto, unfolding(crate::specs::Entities::profile_group_of))]
-    fn read(alloc: Global, message: &Message<'_>) -> Result<ActionProfileGroup, ReadError> {
+    fn read(
+        alloc: Global,
+        message: &Message<'_>,
+    ) -> Result<ActionProfileGroup, Refusal<Unreadable>> {
         let action_profile_id = message.uint32(1)?;
         let group_id = message.uint32(2)?;
         let members = reading::all(alloc, message, 3)?;
@@ -278,7 +298,7 @@ impl Readable for Index {
     ghost meaning = { index_of };
 
     #[tactic(auto, unfolding(crate::specs::Entities::index_of))]
-    fn read(alloc: Global, message: &Message<'_>) -> Result<Index, ReadError> {
+    fn read(alloc: Global, message: &Message<'_>) -> Result<Index, Refusal<Unreadable>> {
         let index = message.int64(1)?;
         Ok(Index { index })
     }
@@ -288,7 +308,7 @@ impl Readable for CounterEntry {
     ghost meaning = { counter_entry_of };
 
     #[tactic(auto, unfolding(crate::specs::Entities::counter_entry_of))]
-    fn read(alloc: Global, message: &Message<'_>) -> Result<CounterEntry, ReadError> {
+    fn read(alloc: Global, message: &Message<'_>) -> Result<CounterEntry, Refusal<Unreadable>> {
         let counter_id = message.uint32(1)?;
         let index = reading::one(alloc, message, 2)?;
         let content = reading::one(alloc, message, 3)?;
@@ -304,7 +324,10 @@ impl Readable for DirectCounterEntry {
     ghost meaning = { direct_counter_entry_of };
 
     #[tactic(auto, unfolding(crate::specs::Entities::direct_counter_entry_of))]
-    fn read(alloc: Global, message: &Message<'_>) -> Result<DirectCounterEntry, ReadError> {
+    fn read(
+        alloc: Global,
+        message: &Message<'_>,
+    ) -> Result<DirectCounterEntry, Refusal<Unreadable>> {
         let table_entry = reading::one(alloc, message, 1)?;
         let content = reading::one(alloc, message, 2)?;
         Ok(DirectCounterEntry {
@@ -318,7 +341,7 @@ impl Readable for DigestConfig {
     ghost meaning = { digest_config_of };
 
     #[tactic(auto, unfolding(crate::specs::Entities::digest_config_of))]
-    fn read(alloc: Global, message: &Message<'_>) -> Result<DigestConfig, ReadError> {
+    fn read(alloc: Global, message: &Message<'_>) -> Result<DigestConfig, Refusal<Unreadable>> {
         let max_timeout_ns = message.int64(1)?;
         let max_list_size = message.int32(2)?;
         let ack_timeout_ns = message.int64(3)?;
@@ -340,7 +363,7 @@ impl Readable for DigestEntry {
     ghost meaning = { digest_entry_of };
 
     #[tactic(auto, unfolding(crate::specs::Entities::digest_entry_of))]
-    fn read(alloc: Global, message: &Message<'_>) -> Result<DigestEntry, ReadError> {
+    fn read(alloc: Global, message: &Message<'_>) -> Result<DigestEntry, Refusal<Unreadable>> {
         let digest_id = message.uint32(1)?;
         let config = reading::one(alloc, message, 2)?.unwrap_or(NO_DIGEST_CONFIG);
         Ok(DigestEntry { digest_id, config })
@@ -348,7 +371,7 @@ impl Readable for DigestEntry {
 }
 
 #[tactic(auto, unfolding(crate::specs::Entities::entity_by))]
-fn entity(alloc: Global, message: &Message<'_>, member: u32) -> Result<Entity, ReadError>
+fn entity(alloc: Global, message: &Message<'_>, member: u32) -> Result<Entity, Refusal<Unreadable>>
     ensures { ReadsInMemory (λ x. x) result (entity_by message.now member) }
 {
     match member {
@@ -369,7 +392,7 @@ impl Readable for Option<Entity> {
     ghost meaning = { entity_of };
 
     #[tactic(auto, unfolding(crate::specs::Entities::entity_of))]
-    fn read(alloc: Global, message: &Message<'_>) -> Result<Option<Entity>, ReadError> {
+    fn read(alloc: Global, message: &Message<'_>) -> Result<Option<Entity>, Refusal<Unreadable>> {
         match message.choice(&[1, 2, 3, 4, 5, 6, 7, 8, 9, 10, 11, 12])? {
             Some(member) => Ok(Some(entity(alloc, message, member)?)),
             None => Ok(None),

@@ -7,8 +7,10 @@ pub mod laws;
 mod p4infos;
 mod reading;
 mod requests;
+mod role_configs;
 mod stream;
 
 pub use calls::read_call;
 pub use p4infos::read_p4info;
 pub use requests::read_config;
+pub use role_configs::role_config_of;

@@ -6,18 +6,19 @@ ghost use Rattle.wire_messages.specs.Answers.{ReadsInMemory};
 
 use crate::reading;
 use crate::reading::Readable;
+use list_types::Refusal;
 use p4_types::p4info::{
     Action, ActionProfile, ActionRef, ControllerPacketMetadata, Counter, CounterSpec, Digest,
     DirectCounter, MatchField, Metadata, P4Info, Param, Preamble, Table,
 };
 use std::alloc::Global;
-use wire_messages::{Message, ReadError};
+use wire_messages::{Message, Unreadable};
 
 impl Readable for Preamble {
     ghost meaning = { preamble_of };
 
     #[tactic(auto, unfolding(crate::specs::P4Infos::preamble_of))]
-    fn read(alloc: Global, message: &Message<'_>) -> Result<Preamble, ReadError> {
+    fn read(alloc: Global, message: &Message<'_>) -> Result<Preamble, Refusal<Unreadable>> {
         let id = message.uint32(1)?;
         let name = reading::text(alloc, message, 2)?;
         let alias = reading::text(alloc, message, 3)?;
@@ -35,7 +36,7 @@ impl Readable for MatchField {
     ghost meaning = { match_field_of };
 
     #[tactic(auto, unfolding(crate::specs::P4Infos::match_field_of))]
-    fn read(alloc: Global, message: &Message<'_>) -> Result<MatchField, ReadError> {
+    fn read(alloc: Global, message: &Message<'_>) -> Result<MatchField, Refusal<Unreadable>> {
         let id = message.uint32(1)?;
         let name = reading::text(alloc, message, 2)?;
         let bitwidth = message.int32(4)?;
@@ -53,7 +54,7 @@ impl Readable for ActionRef {
     ghost meaning = { action_ref_of };
 
     #[tactic(auto, unfolding(crate::specs::P4Infos::action_ref_of))]
-    fn read(alloc: Global, message: &Message<'_>) -> Result<ActionRef, ReadError> {
+    fn read(alloc: Global, message: &Message<'_>) -> Result<ActionRef, Refusal<Unreadable>> {
         let id = message.uint32(1)?;
         let scope = message.int32(3)?;
         Ok(ActionRef { id, scope })
@@ -64,7 +65,7 @@ impl Readable for Table {
     ghost meaning = { table_of };
 
     #[tactic(auto, unfolding(crate::specs::P4Infos::table_of))]
-    fn read(alloc: Global, message: &Message<'_>) -> Result<Table, ReadError> {
+    fn read(alloc: Global, message: &Message<'_>) -> Result<Table, Refusal<Unreadable>> {
         let preamble = reading::one(alloc, message, 1)?;
         let match_fields = reading::all(alloc, message, 2)?;
         let action_refs = reading::all(alloc, message, 3)?;
@@ -92,7 +93,7 @@ impl Readable for Param {
     ghost meaning = { param_of };
 
     #[tactic(auto, unfolding(crate::specs::P4Infos::param_of))]
-    fn read(alloc: Global, message: &Message<'_>) -> Result<Param, ReadError> {
+    fn read(alloc: Global, message: &Message<'_>) -> Result<Param, Refusal<Unreadable>> {
         let id = message.uint32(1)?;
         let name = reading::text(alloc, message, 2)?;
         let bitwidth = message.int32(4)?;
@@ -104,7 +105,7 @@ impl Readable for Action {
     ghost meaning = { action_of };
 
     #[tactic(auto, unfolding(crate::specs::P4Infos::action_of))]
-    fn read(alloc: Global, message: &Message<'_>) -> Result<Action, ReadError> {
+    fn read(alloc: Global, message: &Message<'_>) -> Result<Action, Refusal<Unreadable>> {
         let preamble = reading::one(alloc, message, 1)?;
         let params = reading::all(alloc, message, 2)?;
         Ok(Action { preamble, params })
@@ -115,7 +116,7 @@ impl Readable for ActionProfile {
     ghost meaning = { action_profile_of };
 
     #[tactic(auto, unfolding(crate::specs::P4Infos::action_profile_of))]
-    fn read(alloc: Global, message: &Message<'_>) -> Result<ActionProfile, ReadError> {
+    fn read(alloc: Global, message: &Message<'_>) -> Result<ActionProfile, Refusal<Unreadable>> {
         let preamble = reading::one(alloc, message, 1)?;
         let table_ids = reading::uint32s(alloc, message, 2)?;
         let with_selector = message.boolean(3)?;
@@ -135,7 +136,7 @@ impl Readable for CounterSpec {
     ghost meaning = { counter_spec_of };
 
     #[tactic(auto, unfolding(crate::specs::P4Infos::counter_spec_of))]
-    fn read(alloc: Global, message: &Message<'_>) -> Result<CounterSpec, ReadError> {
+    fn read(alloc: Global, message: &Message<'_>) -> Result<CounterSpec, Refusal<Unreadable>> {
         let unit = message.int32(1)?;
         Ok(CounterSpec { unit })
     }
@@ -145,7 +146,7 @@ impl Readable for Counter {
     ghost meaning = { counter_of };
 
     #[tactic(auto, unfolding(crate::specs::P4Infos::counter_of))]
-    fn read(alloc: Global, message: &Message<'_>) -> Result<Counter, ReadError> {
+    fn read(alloc: Global, message: &Message<'_>) -> Result<Counter, Refusal<Unreadable>> {
         let preamble = reading::one(alloc, message, 1)?;
         let spec = reading::one(alloc, message, 2)?;
         let size = message.int64(3)?;
@@ -161,7 +162,7 @@ impl Readable for DirectCounter {
     ghost meaning = { direct_counter_of };
 
     #[tactic(auto, unfolding(crate::specs::P4Infos::direct_counter_of))]
-    fn read(alloc: Global, message: &Message<'_>) -> Result<DirectCounter, ReadError> {
+    fn read(alloc: Global, message: &Message<'_>) -> Result<DirectCounter, Refusal<Unreadable>> {
         let preamble = reading::one(alloc, message, 1)?;
         let spec = reading::one(alloc, message, 2)?;
         let direct_table_id = message.uint32(3)?;
@@ -177,7 +178,7 @@ impl Readable for Metadata {
     ghost meaning = { metadata_of };
 
     #[tactic(auto, unfolding(crate::specs::P4Infos::metadata_of))]
-    fn read(alloc: Global, message: &Message<'_>) -> Result<Metadata, ReadError> {
+    fn read(alloc: Global, message: &Message<'_>) -> Result<Metadata, Refusal<Unreadable>> {
         let id = message.uint32(1)?;
         let name = reading::text(alloc, message, 2)?;
         let bitwidth = message.int32(4)?;
@@ -189,7 +190,10 @@ impl Readable for ControllerPacketMetadata {
     ghost meaning = { controller_packet_metadata_of };
 
     #[tactic(auto, unfolding(crate::specs::P4Infos::controller_packet_metadata_of))]
-    fn read(alloc: Global, message: &Message<'_>) -> Result<ControllerPacketMetadata, ReadError> {
+    fn read(
+        alloc: Global,
+        message: &Message<'_>,
+    ) -> Result<ControllerPacketMetadata, Refusal<Unreadable>> {
         let preamble = reading::one(alloc, message, 1)?;
         let metadata = reading::all(alloc, message, 2)?;
         Ok(ControllerPacketMetadata { preamble, metadata })
@@ -200,7 +204,7 @@ impl Readable for Digest {
     ghost meaning = { digest_of };
 
     #[tactic(auto, unfolding(crate::specs::P4Infos::digest_of))]
-    fn read(alloc: Global, message: &Message<'_>) -> Result<Digest, ReadError> {
+    fn read(alloc: Global, message: &Message<'_>) -> Result<Digest, Refusal<Unreadable>> {
         let preamble = reading::one(alloc, message, 1)?;
         let type_spec = reading::carried(alloc, message, 2)?;
         Ok(Digest {
@@ -214,7 +218,7 @@ impl Readable for P4Info {
     ghost meaning = { p4info_of };
 
     #[tactic(auto, unfolding(crate::specs::P4Infos::p4info_of))]
-    fn read(alloc: Global, message: &Message<'_>) -> Result<P4Info, ReadError> {
+    fn read(alloc: Global, message: &Message<'_>) -> Result<P4Info, Refusal<Unreadable>> {
         let tables = reading::all(alloc, message, 2)?;
         let actions = reading::all(alloc, message, 3)?;
         let action_profiles = reading::all(alloc, message, 4)?;
@@ -235,7 +239,7 @@ impl Readable for P4Info {
 }
 
 /// The P4Info that the bytes are (p4.config.v1). It copies the texts and bytes that it keeps.
-pub fn read_p4info(alloc: Global, bytes: &[u8]) -> Result<P4Info, ReadError>
+pub fn read_p4info(alloc: Global, bytes: &[u8]) -> Result<P4Info, Refusal<Unreadable>>
     ensures { ReadsInMemory (λ x. x) result (read p4info_of bytes.now) }
 {
     reading::from_bytes(alloc, bytes)

@@ -7,25 +7,25 @@ ghost use Rattle.wire_fields.specs.Fields.{WireField};
 ghost use Rattle.wire_messages.specs.Answers.{Reads, ReadsInMemory};
 ghost use Rattle.wire_messages.specs.Message.{each, bytes_at, text_at, texts_at, uint32s_at, message_at};
 
-use list_types::{ByteList, List, Text};
+use list_types::{ByteList, List, Refusal, Text};
 use std::alloc::Global;
-use wire_messages::{Message, ReadError, Unreadable};
+use wire_messages::{Message, Unreadable};
 
 /// A message that is read by its fields.
 pub(crate) trait Readable: Drop {
     ghost meaning: { spec.List WireField → spec.Option Self };
 
-    fn read(alloc: Global, message: &Message<'_>) -> Result<Self, ReadError>
+    fn read(alloc: Global, message: &Message<'_>) -> Result<Self, Refusal<Unreadable>>
         ensures { ReadsInMemory (λ x. x) result (meaning message.now) };
 }
 
-pub(crate) fn fields<'a>(alloc: Global, bytes: &'a [u8]) -> Result<Message<'a>, ReadError>
+pub(crate) fn fields<'a>(alloc: Global, bytes: &'a [u8]) -> Result<Message<'a>, Refusal<Unreadable>>
     ensures { ReadsInMemory (λ message. message) result (fields_of bytes.now) }
 {
     Message::read(alloc, bytes)
 }
 
-pub(crate) fn from_bytes<T: Readable>(alloc: Global, bytes: &[u8]) -> Result<T, ReadError>
+pub(crate) fn from_bytes<T: Readable>(alloc: Global, bytes: &[u8]) -> Result<T, Refusal<Unreadable>>
     ensures { ReadsInMemory (λ x. x) result (read T.meaning bytes.now) }
 {
     let message = fields(alloc, bytes)?;
@@ -37,7 +37,7 @@ pub(crate) fn one<T: Readable>(
     alloc: Global,
     message: &Message<'_>,
     number: u32,
-) -> Result<Option<T>, ReadError>
+) -> Result<Option<T>, Refusal<Unreadable>>
     ensures { ReadsInMemory (λ x. x) result (one_at T.meaning number message.now) }
 {
     match message.message(number)? {
@@ -46,7 +46,7 @@ pub(crate) fn one<T: Readable>(
     }
 }
 
-fn each_of<T: Readable>(alloc: Global, messages: &[&[u8]]) -> Result<List<T>, ReadError>
+fn each_of<T: Readable>(alloc: Global, messages: &[&[u8]]) -> Result<List<T>, Refusal<Unreadable>>
     ensures { ReadsInMemory (λ x. x) result (each (read T.meaning) (map (λ x. x.now) messages.now)) }
 {
     let mut list = List::new(alloc);
@@ -61,7 +61,7 @@ pub(crate) fn all<T: Readable>(
     alloc: Global,
     message: &Message<'_>,
     number: u32,
-) -> Result<List<T>, ReadError>
+) -> Result<List<T>, Refusal<Unreadable>>
     ensures { ReadsInMemory (λ x. x) result (all_at T.meaning number message.now) }
 {
     let messages = message.messages(alloc, number)?;
@@ -73,12 +73,12 @@ pub(crate) fn inside<'a>(
     alloc: Global,
     message: &Message<'a>,
     number: u32,
-) -> Result<Message<'a>, ReadError>
+) -> Result<Message<'a>, Refusal<Unreadable>>
     ensures { ReadsInMemory (λ x. x) result (inside_at number message.now) }
 {
     match message.message(number)? {
         Some(bytes) => fields(alloc, bytes),
-        None => Err(ReadError::Unreadable),
+        None => Err(Refusal::For(Unreadable)),
     }
 }
 
@@ -87,7 +87,7 @@ pub(crate) fn member<T: Readable>(
     alloc: Global,
     message: &Message<'_>,
     number: u32,
-) -> Result<T, ReadError>
+) -> Result<T, Refusal<Unreadable>>
     ensures { ReadsInMemory (λ x. x) result (member_at T.meaning number message.now) }
 {
     let inside = inside(alloc, message, number)?;
@@ -101,7 +101,7 @@ pub(crate) fn opaque(message: &Message<'_>, number: u32) -> Result<bool, Unreada
     Ok(message.message(number)?.is_some())
 }
 
-pub(crate) fn copied(alloc: Global, bytes: &[u8]) -> Result<ByteList, ReadError>
+pub(crate) fn copied(alloc: Global, bytes: &[u8]) -> Result<ByteList, Refusal<Unreadable>>
     ensures { ReadsInMemory (λ list. list) result (Some bytes.now) }
 {
     let mut list = List::new(alloc);
@@ -113,13 +113,17 @@ pub(crate) fn bytes(
     alloc: Global,
     message: &Message<'_>,
     number: u32,
-) -> Result<ByteList, ReadError>
+) -> Result<ByteList, Refusal<Unreadable>>
     ensures { ReadsInMemory (λ list. list) result (bytes_at number message.now) }
 {
     copied(alloc, message.bytes(number)?)
 }
 
-pub(crate) fn text(alloc: Global, message: &Message<'_>, number: u32) -> Result<Text, ReadError>
+pub(crate) fn text(
+    alloc: Global,
+    message: &Message<'_>,
+    number: u32,
+) -> Result<Text, Refusal<Unreadable>>
     ensures { ReadsInMemory (λ text. text) result (text_at number message.now) }
 {
     let mut text = String::new(alloc);
@@ -127,7 +131,7 @@ pub(crate) fn text(alloc: Global, message: &Message<'_>, number: u32) -> Result<
     Ok(Text::from_string(text))
 }
 
-fn text_from(alloc: Global, text: &str) -> Result<Text, ReadError>
+fn text_from(alloc: Global, text: &str) -> Result<Text, Refusal<Unreadable>>
     ensures { ReadsInMemory (λ text. text) result (Some text.now) }
 {
     let mut copy = String::new(alloc);
@@ -135,7 +139,7 @@ fn text_from(alloc: Global, text: &str) -> Result<Text, ReadError>
     Ok(Text::from_string(copy))
 }
 
-fn texts_from(alloc: Global, texts: &[&str]) -> Result<List<Text>, ReadError>
+fn texts_from(alloc: Global, texts: &[&str]) -> Result<List<Text>, Refusal<Unreadable>>
     ensures { ReadsInMemory (λ list. list) result (Some (map (λ x. x.now) texts.now)) }
 {
     let mut list = List::new(alloc);
@@ -149,7 +153,7 @@ pub(crate) fn texts(
     alloc: Global,
     message: &Message<'_>,
     number: u32,
-) -> Result<List<Text>, ReadError>
+) -> Result<List<Text>, Refusal<Unreadable>>
     ensures { ReadsInMemory (λ list. list) result (texts_at number message.now) }
 {
     let texts = message.texts(alloc, number)?;
@@ -160,7 +164,7 @@ pub(crate) fn uint32s(
     alloc: Global,
     message: &Message<'_>,
     number: u32,
-) -> Result<List<u32>, ReadError>
+) -> Result<List<u32>, Refusal<Unreadable>>
     ensures { ReadsInMemory (λ list. list) result (uint32s_at number message.now) }
 {
     Ok(List::from_vec(message.uint32s(alloc, number)?))
@@ -171,7 +175,7 @@ pub(crate) fn carried(
     alloc: Global,
     message: &Message<'_>,
     number: u32,
-) -> Result<Option<ByteList>, ReadError>
+) -> Result<Option<ByteList>, Refusal<Unreadable>>
     ensures { ReadsInMemory (λ x. x) result (message_at number message.now) }
 {
     match message.message(number)? {

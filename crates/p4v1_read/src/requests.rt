@@ -7,13 +7,13 @@ ghost use Rattle.wire_messages.specs.Message.{message_at};
 
 use crate::reading;
 use crate::reading::Readable;
-use list_types::{ByteList, NoMemory};
+use list_types::{ByteList, NoMemory, Refusal};
 use p4_types::messages::{
     Cookie, Entity, ForwardingPipelineConfig, GetForwardingPipelineConfigRequest, ReadRequest,
     SetForwardingPipelineConfigRequest, Uint128, Update, WriteRequest,
 };
 use std::alloc::Global;
-use wire_messages::{Message, ReadError};
+use wire_messages::{Message, Unreadable};
 
 const WRITE_REQUEST_FIELDS: [u32; 5] = [1, 2, 3, 4, 5];
 
@@ -23,7 +23,7 @@ impl Readable for Uint128 {
     ghost meaning = { uint128_of };
 
     #[tactic(auto, unfolding(crate::specs::Requests::uint128_of))]
-    fn read(alloc: Global, message: &Message<'_>) -> Result<Uint128, ReadError> {
+    fn read(alloc: Global, message: &Message<'_>) -> Result<Uint128, Refusal<Unreadable>> {
         let high = message.uint64(1)?;
         let low = message.uint64(2)?;
         Ok(Uint128 { high, low })
@@ -35,7 +35,7 @@ pub(crate) fn election_id(
     alloc: Global,
     message: &Message<'_>,
     number: u32,
-) -> Result<Uint128, ReadError>
+) -> Result<Uint128, Refusal<Unreadable>>
     ensures { ReadsInMemory (λ x. x) result (election_id_at number message.now) }
 {
     match reading::one(alloc, message, number)? {
@@ -48,7 +48,7 @@ impl Readable for Update {
     ghost meaning = { update_of };
 
     #[tactic(auto, unfolding(crate::specs::Requests::update_of))]
-    fn read(alloc: Global, message: &Message<'_>) -> Result<Update, ReadError> {
+    fn read(alloc: Global, message: &Message<'_>) -> Result<Update, Refusal<Unreadable>> {
         let kind = message.int32(1)?;
         let entity: Option<Option<Entity>> = reading::one(alloc, message, 2)?;
         Ok(Update {
@@ -62,9 +62,9 @@ impl Readable for WriteRequest {
     ghost meaning = { write_request_of };
 
     #[tactic(auto, unfolding(crate::specs::Requests::write_request_of))]
-    fn read(alloc: Global, message: &Message<'_>) -> Result<WriteRequest, ReadError> {
+    fn read(alloc: Global, message: &Message<'_>) -> Result<WriteRequest, Refusal<Unreadable>> {
         if !message.has_only(&WRITE_REQUEST_FIELDS) {
-            return Err(ReadError::Unreadable);
+            return Err(Refusal::For(Unreadable));
         }
         let device_id = message.uint64(1)?;
         let role_id = message.uint64(2)?;
@@ -85,7 +85,7 @@ impl Readable for ReadRequest {
     ghost meaning = { read_request_of };
 
     #[tactic(auto, unfolding(crate::specs::Requests::read_request_of))]
-    fn read(alloc: Global, message: &Message<'_>) -> Result<ReadRequest, ReadError> {
+    fn read(alloc: Global, message: &Message<'_>) -> Result<ReadRequest, Refusal<Unreadable>> {
         let device_id = message.uint64(1)?;
         let entities = reading::all(alloc, message, 2)?;
         Ok(ReadRequest {
@@ -99,13 +99,13 @@ impl Readable for Cookie {
     ghost meaning = { cookie_of };
 
     #[tactic(auto, unfolding(crate::specs::Requests::cookie_of))]
-    fn read(alloc: Global, message: &Message<'_>) -> Result<Cookie, ReadError> {
+    fn read(alloc: Global, message: &Message<'_>) -> Result<Cookie, Refusal<Unreadable>> {
         let cookie = message.uint64(1)?;
         Ok(Cookie { cookie })
     }
 }
 
-fn p4info(alloc: Global, message: &Message<'_>) -> Result<Option<ByteList>, ReadError>
+fn p4info(alloc: Global, message: &Message<'_>) -> Result<Option<ByteList>, Refusal<Unreadable>>
     ensures { ReadsInMemory (λ x. x) result (message_at 1 message.now) }
 {
     match message.message(1)? {
@@ -118,7 +118,10 @@ impl Readable for ForwardingPipelineConfig {
     ghost meaning = { config_of };
 
     #[tactic(auto, unfolding(crate::specs::Requests::config_of))]
-    fn read(alloc: Global, message: &Message<'_>) -> Result<ForwardingPipelineConfig, ReadError> {
+    fn read(
+        alloc: Global,
+        message: &Message<'_>,
+    ) -> Result<ForwardingPipelineConfig, Refusal<Unreadable>> {
         let p4info = p4info(alloc, message)?;
         let p4_device_config = reading::bytes(alloc, message, 2)?;
         let cookie = reading::one(alloc, message, 3)?;
@@ -137,9 +140,9 @@ impl Readable for SetForwardingPipelineConfigRequest {
     fn read(
         alloc: Global,
         message: &Message<'_>,
-    ) -> Result<SetForwardingPipelineConfigRequest, ReadError> {
+    ) -> Result<SetForwardingPipelineConfigRequest, Refusal<Unreadable>> {
         if !message.has_only(&SET_REQUEST_FIELDS) {
-            return Err(ReadError::Unreadable);
+            return Err(Refusal::For(Unreadable));
         }
         let device_id = message.uint64(1)?;
         let role_id = message.uint64(2)?;
@@ -163,7 +166,7 @@ impl Readable for GetForwardingPipelineConfigRequest {
     fn read(
         alloc: Global,
         message: &Message<'_>,
-    ) -> Result<GetForwardingPipelineConfigRequest, ReadError> {
+    ) -> Result<GetForwardingPipelineConfigRequest, Refusal<Unreadable>> {
         let device_id = message.uint64(1)?;
         let response_type = message.int32(2)?;
         Ok(GetForwardingPipelineConfigRequest {
@@ -183,7 +186,7 @@ pub fn read_config(
 {
     match reading::from_bytes(alloc, bytes) {
         Ok(config) => Ok(Some(config)),
-        Err(ReadError::Unreadable) => Ok(None),
-        Err(ReadError::NoMemory) => Err(NoMemory),
+        Err(Refusal::For(_)) => Ok(None),
+        Err(Refusal::NoMemory) => Err(NoMemory),
     }
 }

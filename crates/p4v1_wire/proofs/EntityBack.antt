@@ -20,7 +20,8 @@ use Rattle.p4_types.specs.declared.messages.TableAction.{TableAction}
 use Rattle.p4_types.specs.declared.messages.TableEntry.{TableEntry}
 use Rattle.wire_fields.specs.Laws.{CanBeWritten}
 use Rattle.wire_fields.specs.Spelling.{spelling}
-use Rattle.wire_messages.specs.Message.{◌>>=◌, number_at}
+use Rattle.list_types.specs.Options.{◌>>=◌}
+use Rattle.wire_messages.specs.Message.{number_at}
 use Rattle.wire_messages.specs.Written.{Uint32, Message, payloads, Row, row, written, rising, RowsInRange, look}
 use Rattle.wire_messages.proofs.CanWrite.{rows_can_be_written}
 use Rattle.wire_messages.proofs.ReadBack.{uint32_back, uint64_back, int32_back, int64_back, flag_back, bytes_back, chosen_uint32_back, choice_back}

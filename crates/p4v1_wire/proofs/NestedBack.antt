@@ -8,7 +8,8 @@ use Rattle.wire_fields.specs.Fields.{Payload, Bytes, WireField}
 use Rattle.wire_fields.specs.Laws.{PayloadFits, CanBeWritten}
 use Rattle.wire_fields.specs.Spelling.{spelling}
 use Rattle.wire_fields.proofs.LawProofs.{spelling_spells}
-use Rattle.wire_messages.specs.Message.{◌>>=◌, each, given}
+use Rattle.list_types.specs.Options.{◌>>=◌}
+use Rattle.wire_messages.specs.Message.{each, given}
 use Rattle.wire_messages.specs.Written.{Value, Message, Present, Messages, payloads, unless_default, where_given, sent, Row, written, rising, RowsInRange, look}
 use Rattle.wire_messages.proofs.CanWrite.{rows_can_be_written}
 use Rattle.wire_messages.proofs.ReadBack.{found, message_back, present_back, messages_back}

@@ -15,7 +15,8 @@ use Rattle.p4_types.specs.declared.messages.Role.{Role}
 use Rattle.p4_types.specs.declared.messages.Uint128.{Uint128}
 use Rattle.wire_fields.specs.Laws.{CanBeWritten}
 use Rattle.wire_fields.specs.Spelling.{spelling}
-use Rattle.wire_messages.specs.Message.{◌>>=◌, number_at, bytes_at, messages_at}
+use Rattle.list_types.specs.Options.{◌>>=◌}
+use Rattle.wire_messages.specs.Message.{number_at, bytes_at, messages_at}
 use Rattle.wire_messages.specs.Written.{Int32, Text, Message, payloads, Row, row, written, rising, RowsInRange, look}
 use Rattle.wire_messages.proofs.CanWrite.{rows_can_be_written}
 use Rattle.wire_messages.proofs.ReadBack.{uint32_back, uint64_back, int32_back, int64_back, bytes_back, chosen_bytes_back, text_back, choice_back, known_back}

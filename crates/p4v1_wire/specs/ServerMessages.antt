@@ -17,7 +17,8 @@ use Rattle.p4_types.specs.declared.messages.P4Data.TheVariants as data_kinds
 use Rattle.p4_types.specs.declared.messages.StreamErrorDetails.TheVariants as details
 use Rattle.p4_types.specs.declared.messages.StreamMessageResponse.TheVariants as responses
 use Rattle.wire_fields.specs.Fields.{WireField}
-use Rattle.wire_messages.specs.Message.{◌>>=◌, uint32_at, uint64_at, int32_at, int64_at, bytes_at, text_at, choice_at}
+use Rattle.list_types.specs.Options.{◌>>=◌}
+use Rattle.wire_messages.specs.Message.{uint32_at, uint64_at, int32_at, int64_at, bytes_at, text_at, choice_at}
 use Rattle.p4v1_read.specs.Nested.{one_at, all_at, member_at, optional}
 use Rattle.p4v1_read.specs.Entities.{table_entry_of, entity_of}
 use Rattle.p4v1_read.specs.Requests.{config_of}

@@ -7,23 +7,23 @@ use Rattle.p4_types.specs.declared.table.Change.TheVariants as changes
 use Rattle.p4_types.specs.declared.table.EntryChange.{EntryChange}
 use Rattle.p4_types.specs.declared.table.Room.{Room}
 use Rattle.plane_spec.specs.Objects.{table_of}
-use Rattle.plane_spec.specs.Planes.{Control, Plane, target, room_of, change_cause, cause_in, inserted_in, changed, changed_unless, changed_in, change_applied}
+use Rattle.plane_spec.specs.Planes.{ControlState, Plane, target, room_of, change_cause, cause_in, inserted_in, changed, changed_unless, changed_in, change_applied}
 use Rattle.plane_state.specs.declared.parts.Drawn.{Drawn}
 use Rattle.plane_state.specs.Versions.{insert_after, plane_after, drawn_by_insert, drawn_by}
 use Rattle.role_arbiter.specs.State.{RolesState}
 use Rattle.plane_image.specs.Image.{control_of, after_in, drawn_in}
 
 -- with another plane in the place of the target, and other numbers
-abbrev with_staged : Control → Plane → ℕ → ℕ → Control
+abbrev with_staged : ControlState → Plane → ℕ → ℕ → ControlState
 with_staged c plane next slot = control_of c.device c.cpu c.rows c.roles c.active (Some plane) next slot c.closed
 
-abbrev with_active : Control → Plane → ℕ → ℕ → Control
+abbrev with_active : ControlState → Plane → ℕ → ℕ → ControlState
 with_active c plane next slot = control_of c.device c.cpu c.rows c.roles (Some plane) c.staged next slot c.closed
 
-none_drawn_staged : (c : Control) (plane : Plane) → with_staged c plane (c.next + 0) (c.next_slot + 0) ≡ with_staged c plane c.next c.next_slot
+none_drawn_staged : (c : ControlState) (plane : Plane) → with_staged c plane (c.next + 0) (c.next_slot + 0) ≡ with_staged c plane c.next c.next_slot
 none_drawn_staged c plane = ap₂ (λ (n m : ℕ). with_staged c plane n m) (add-zero c.next) (add-zero c.next_slot)
 
-none_drawn_active : (c : Control) (plane : Plane) → with_active c plane (c.next + 0) (c.next_slot + 0) ≡ with_active c plane c.next c.next_slot
+none_drawn_active : (c : ControlState) (plane : Plane) → with_active c plane (c.next + 0) (c.next_slot + 0) ≡ with_active c plane c.next c.next_slot
 none_drawn_active c plane = ap₂ (λ (n m : ℕ). with_active c plane n m) (add-zero c.next) (add-zero c.next_slot)
 
 insert_staged : (o : Option Table) (device cpu rows : ℕ) (roles : RolesState) (active : Option Plane) (plane : Plane) (next slot : ℕ) (closed : Bool) (change : EntryChange)
@@ -67,7 +67,7 @@ unfolding change_applied
 staged_changed device cpu rows roles active None next slot closed change room after drawn is room_is none after_is drawn_is = absurd (cc)
 staged_changed device cpu rows roles active (Some plane) next slot closed change room after drawn is room_is none after_is drawn_is =
     let c = control_of device cpu rows roles active (Some plane) next slot closed in
-    let F : Option Plane → Drawn → Control = λ o d. control_of device cpu rows roles active o (next + d.numbers) (slot + d.slots) closed in
+    let F : Option Plane → Drawn → ControlState = λ o d. control_of device cpu rows roles active o (next + d.numbers) (slot + d.slots) closed in
     let free : change_cause (room_of c) plane change ≡ None = ap (λ (r : Room). change_cause r plane change) (sym room_is) ∙ none in
     ap₂ F after_is drawn_is
     ∙ ap (λ (r : Room). F (Some (plane_after r plane change)) (drawn_by plane change)) room_is
@@ -84,7 +84,7 @@ active_changed device cpu rows roles active (Some other) next slot closed change
 active_changed device cpu rows roles None None next slot closed change room after drawn is room_is none after_is drawn_is = absurd (cc)
 active_changed device cpu rows roles (Some plane) None next slot closed change room after drawn is room_is none after_is drawn_is =
     let c = control_of device cpu rows roles (Some plane) None next slot closed in
-    let F : Option Plane → Drawn → Control = λ o d. control_of device cpu rows roles o None (next + d.numbers) (slot + d.slots) closed in
+    let F : Option Plane → Drawn → ControlState = λ o d. control_of device cpu rows roles o None (next + d.numbers) (slot + d.slots) closed in
     let free : change_cause (room_of c) plane change ≡ None = ap (λ (r : Room). change_cause r plane change) (sym room_is) ∙ none in
     ap₂ F after_is drawn_is
     ∙ ap (λ (r : Room). F (Some (plane_after r plane change)) (drawn_by plane change)) room_is
@@ -92,19 +92,19 @@ active_changed device cpu rows roles (Some plane) None next slot closed change r
     ∙ sym (ap (λ o. changed_unless o c plane change) free)
 
 -- the target where a plane is staged, and where none is
-pub target_staged : (active staged : Option Plane) (c : Control) → c.active ≡ active → c.staged ≡ staged → is_some staged ≡ true → target c ≡ staged
+pub target_staged : (active staged : Option Plane) (c : ControlState) → c.active ≡ active → c.staged ≡ staged → is_some staged ≡ true → target c ≡ staged
 target_staged active None c active_is staged_is is = absurd (cc)
 target_staged active (Some plane) c active_is staged_is is = ap (λ (o : Option Plane). target (record c { staged = o })) staged_is
 
-pub target_active : (active staged : Option Plane) (c : Control) → c.active ≡ active → c.staged ≡ staged → is_some staged ≡ false → target c ≡ active
+pub target_active : (active staged : Option Plane) (c : ControlState) → c.active ≡ active → c.staged ≡ staged → is_some staged ≡ false → target c ≡ active
 target_active active (Some plane) c active_is staged_is is = absurd (cc)
 target_active active None c active_is staged_is is = ap (λ (o : Option Plane). target (record c { staged = o })) staged_is ∙ active_is
 
 -- a change that is refused for a cause leaves the state
-stays_in : (o : Option Plane) (c : Control) (change : Change) (cause : Cause) → cause_in o (room_of c) change ≡ Some cause → changed_in o c change ≡ c
+stays_in : (o : Option Plane) (c : ControlState) (change : Change) (cause : Cause) → cause_in o (room_of c) change ≡ Some cause → changed_in o c change ≡ c
 stays_in None c change cause h = refl
 stays_in (Some plane) c change cause h = ap (λ o. changed_unless o c plane change) h
 
-pub refused_stays : (c : Control) (change : Change) (cause : Cause) → cause_in (target c) (room_of c) change ≡ Some cause → change_applied c change ≡ c
+pub refused_stays : (c : ControlState) (change : Change) (cause : Cause) → cause_in (target c) (room_of c) change ≡ Some cause → change_applied c change ≡ c
 unfolding change_applied
 refused_stays c change cause h = stays_in (target c) c change cause h

@@ -5,7 +5,7 @@ use Rattle.p4_types.specs.declared.events.Event.TheVariants as events
 use Rattle.plane_spec.specs.Config.{Config, Committed, cells_in}
 use Rattle.plane_spec.specs.Entries.{slot_limit}
 use Rattle.plane_spec.specs.Legal.{MayMake, MayCommit}
-use Rattle.plane_spec.specs.Planes.{Control}
+use Rattle.plane_spec.specs.Planes.{ControlState}
 use Rattle.plane_image.proofs.Following.{accepted}
 use Rattle.plane_image.specs.Taking.{has_slots, has_slots_in, MayIsTaken}
 use Rattle.std.proofs.lemmas.Bool.Decides.{nat_tests}
@@ -21,10 +21,10 @@ pub not_false : (b : Bool) → not b ≡ true → b ≡ false
 not_false true h = absurd cc
 not_false false h = refl
 
-made : (c : Control) (config : Config) → MayMake c config → has_slots c config ≡ true
+made : (c : ControlState) (config : Config) → MayMake c config → has_slots c config ≡ true
 made c config may = not_above slot_limit (c.next_slot + cells_in config) may.slots
 
-content_made : (c : Control) (content : Committed) → MayCommit c content → has_slots_in c content ≡ true
+content_made : (c : ControlState) (content : Committed) → MayCommit c content → has_slots_in c content ≡ true
 content_made c contents.Staged may = refl
 content_made c (contents.Fresh config) may = made c config may
 

@@ -7,8 +7,9 @@ use Rattle.p4_types.specs.declared.events.Event.TheVariants as events
 use Rattle.p4_types.specs.declared.messages.Update.{Update}
 use Rattle.p4_types.specs.declared.table.Change.{Change}
 use Rattle.p4_types.specs.declared.table.Room.{Room}
+use Rattle.plane_spec.specs.Entries.{slot_limit}
 use Rattle.plane_spec.specs.Config.{Event, cells_in}
-use Rattle.plane_spec.specs.Planes.{Control, Plane, target, scope_of}
+use Rattle.plane_spec.specs.Planes.{ControlState, Plane, target, scope_of}
 use Rattle.plane_spec.specs.Updates.{resolution}
 use Rattle.plane_state.specs.declared.parts.Drawn.{Drawn}
 use Rattle.plane_state.specs.Versions.{PlaneVersions, plane_after, drawn_by}
@@ -16,8 +17,8 @@ use Rattle.role_arbiter.specs.State.{RolesState}
 
 -- the control state as it is, and as it was before the changes that can be undone; and how many steps there were
 pub record ImageVersions : Type 0 where
-  pub now : Control
-  pub before : Control
+  pub now : ControlState
+  pub before : ControlState
   pub steps : ℕ
 
 -- the active and the staged plane as they are, and as they were before the changes that can be undone
@@ -32,7 +33,7 @@ abbrev pub undone : PlanesVersions → PlanesVersions
 undone planes = record { active = planes.former_active; staged = planes.former_staged; former_active = planes.former_active; former_staged = planes.former_staged }
 
 -- the control state from its parts
-abbrev pub control_of : (device cpu rows : ℕ) → RolesState → (active staged : Option Plane) → (next next_slot : ℕ) → Bool → Control
+abbrev pub control_of : (device cpu rows : ℕ) → RolesState → (active staged : Option Plane) → (next next_slot : ℕ) → Bool → ControlState
 control_of device cpu rows roles active staged next next_slot closed = record {
   device = device;
   cpu = cpu;
@@ -64,13 +65,13 @@ CellsBelowIn next None = Unit {0}
 CellsBelowIn next (Some plane) = plane.cells + cells_in plane.config ≤ next
 
 -- there are no more numbers and slots than there are, and the entries and cells have drawn theirs
-pub record IsNumbered (c : Control) : Type 0 where
+pub record IsNumbered (c : ControlState) : Type 0 where
   pub active : BelowIn c.next c.active
   pub staged : BelowIn c.next c.staged
   pub active_cells : CellsBelowIn c.next_slot c.active
   pub staged_cells : CellsBelowIn c.next_slot c.staged
   pub numbers : c.next ≤ 2 ^ 64 - 1
-  pub slots : c.next_slot ≤ 1048576
+  pub slots : c.next_slot ≤ slot_limit
 
 -- numbered now and before
 pub record IsImage (i : ImageVersions) : Type 0 where
@@ -88,12 +89,12 @@ drawn_in None change = record { numbers = 0; slots = 0 }
 drawn_in (Some plane) change = drawn_by plane change
 
 -- what an update changes in a plane by the rules that ask for the program alone; without a plane no table is known
-abbrev pub resolved_in : Option Plane → Control → ℕ → Update → Result Change Cause
+abbrev pub resolved_in : Option Plane → ControlState → ℕ → Update → Result Change Cause
 resolved_in None c role update = Err (record { rule = rules.U3; code = codes.NotFound })
 resolved_in (Some plane) c role update = resolution plane.config.info (scope_of c role) update
 
 -- the same in the target plane
-abbrev pub resolved : Control → ℕ → Update → Result Change Cause
+abbrev pub resolved : ControlState → ℕ → Update → Result Change Cause
 resolved c role update = resolved_in (target c) c role update
 
 -- how many steps an event is: the end of the list is none

@@ -13,14 +13,12 @@ ghost use Rattle.table_store.specs.Answers.{Refuses};
 use crate::planes::Planes;
 use list_types::Refusal;
 use p4_types::code::Cause;
+use p4_types::events::SLOT_LIMIT;
 use p4_types::table::{Change, Room};
 use plane_state::Plane;
 use role_arbiter::{Lanes, Placed, Roles, UndoRoles};
 use std::alloc::Global;
 use std::marker::Model;
-
-/// How many slots of counters the switch has.
-pub(crate) const SLOT_LIMIT: u32 = 1_048_576;
 
 /// The control state of the switch, whose changes can be undone until they are kept, with the number of steps so far
 /// (which stands still at 2^64 - 1). Contracts see it as it is, and as it was before the changes that can be undone.

@@ -5,8 +5,9 @@ ghost use Rattle.plane_spec.specs.Config.{cells_in};
 ghost use Rattle.plane_spec.specs.Entries.{slot_limit};
 ghost use Rattle.plane_spec.specs.Planes.{saved, committed, made_plane};
 
-use crate::image::{Image, SLOT_LIMIT};
+use crate::image::Image;
 use list_types::NoMemory;
+use p4_types::events::SLOT_LIMIT;
 use p4_types::shared::Shared;
 use plane_state::{Config, Plane};
 use std::alloc::Global;

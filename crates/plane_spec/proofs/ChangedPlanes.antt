@@ -25,7 +25,7 @@ use Rattle.plane_spec.specs.Entries.{same_name, slot_limit, table_size, entries_
 use Rattle.plane_spec.specs.Objects.{table_of}
 use Rattle.plane_spec.specs.Order.{StandsBefore}
 use Rattle.plane_spec.specs.Profiles.{entry_rows, group_of}
-use Rattle.plane_spec.specs.Planes.{Control, Plane, rows_of, rows_used, room_of, or_else, with_target, or_cause, caused_if, if_present, if_in_use, lacks_use, set_exceeds, insert_cause_in, modify_cause_in, profile_cause, change_cause, profile_changed, with_default, digests_changed, inserted_in, changed, changed_unless, changed_in, change_applied}
+use Rattle.plane_spec.specs.Planes.{ControlState, Plane, rows_of, rows_used, room_of, or_else, with_target, or_cause, caused_if, if_present, if_in_use, lacks_use, set_exceeds, insert_cause_in, modify_cause_in, profile_cause, change_cause, profile_changed, with_default, digests_changed, inserted_in, changed, changed_unless, changed_in, change_applied}
 use Rattle.plane_spec.specs.PlaneLaws.{numbers_from, numbers_of, slots_of}
 use Rattle.plane_spec.proofs.ChangedProfiles.{MayHave, no_cause, not_broken, neither, member_more, member_other, member_fewer, group_more, group_other, group_fewer}
 use Rattle.plane_spec.proofs.Counts.{sum-inserted, sum-modified, sum-deleted}
@@ -37,7 +37,7 @@ use Rattle.plane_spec.proofs.Lists.{All-weaken}
 use Rattle.plane_spec.proofs.Names.{names_equal}
 
 -- Another plane may stand in the place of one: it is kept, and what it has more was drawn since.
-record MayStand (c : Control) (old new : Plane) (next next_slot : ℕ) : Type 0 where
+record MayStand (c : ControlState) (old new : Plane) (next next_slot : ℕ) : Type 0 where
   plane : IsKeptPlane new
   numbers : (x : ℕ) → times x (numbers_of (Some new)) + drawn c.next x ≤ times x (numbers_of (Some old)) + drawn next x
   slots : (x : ℕ) → times x (slots_of (Some new)) + drawn c.next_slot x ≤ times x (slots_of (Some old)) + drawn next_slot x
@@ -46,11 +46,11 @@ record MayStand (c : Control) (old new : Plane) (next next_slot : ℕ) : Type 0 
   slot_limit : next_slot ≤ slot_limit
 
 -- with another target plane, and other numbers that are drawn next
-abbrev pub put : Control → Plane → ℕ → ℕ → Control
+abbrev pub put : ControlState → Plane → ℕ → ℕ → ControlState
 put c plane next next_slot = record (with_target c plane) { next = next; next_slot = next_slot }
 
 -- the plane is the target, and one that may stand in its place keeps what is kept
-record IsTarget (c : Control) (plane : Plane) : Type 0 where
+record IsTarget (c : ControlState) (plane : Plane) : Type 0 where
   kept : IsKept c
   is_kept : IsKeptPlane plane
   drawn_numbers : AreDrawn c.next (numbers_of (Some plane))
@@ -61,12 +61,12 @@ abbrev IsUntouched : (Entry → ℕ) → Type 0
 IsUntouched f = (change : EntryChange) (entry : Entry) → f (with_change change entry) ≡ f entry
 
 -- another target plane leaves what is drawn next
-pub same_next : (b : Bool) (c : Control) (plane : Plane) → let d : Control = cond b (record c { staged = Some plane }) (record c { active = Some plane }) in d ≡ record d { next = c.next; next_slot = c.next_slot }
+pub same_next : (b : Bool) (c : ControlState) (plane : Plane) → let d : ControlState = cond b (record c { staged = Some plane }) (record c { active = Some plane }) in d ≡ record d { next = c.next; next_slot = c.next_slot }
 same_next true c plane = refl
 same_next false c plane = refl
 
 -- a change that draws nothing
-with_same_next : (c : Control) (old new : Plane) → IsTarget c old → MayStand c old new c.next c.next_slot → IsKept (with_target c new)
+with_same_next : (c : ControlState) (old new : Plane) → IsTarget c old → MayStand c old new c.next c.next_slot → IsKept (with_target c new)
 with_same_next c old new t may = subst IsKept (sym (same_next (is_some c.staged) c new)) (t.replaced new c.next c.next_slot may)
 
 -- the rows that entries take
@@ -74,7 +74,7 @@ abbrev rows_by : List Entry → ℕ
 rows_by entries = sum_by (λ entry. entry_rows entry.action) entries
 
 -- other entries in a plane, of which no number, slot or table has more, and for whose rows there is room
-fewer_stand : (c : Control) (old : Plane) (entries : List Entry) → IsTarget c old → Stand entries → ((f : Entry → ℕ) → IsUntouched f → sum_by f entries ≤ sum_by f old.entries)
+fewer_stand : (c : ControlState) (old : Plane) (entries : List Entry) → IsTarget c old → Stand entries → ((f : Entry → ℕ) → IsUntouched f → sum_by f entries ≤ sum_by f old.entries)
     → rows_used c + rows_by entries ≤ c.rows + rows_by old.entries → MayStand c old (record old { entries = entries }) c.next c.next_slot
 fewer_stand c old entries t stand fewer room =
     let cells : List ℕ = numbers_from (cells_in old.config) old.cells in record {
@@ -99,7 +99,7 @@ fewer_stand c old entries t stand fewer room =
     }
 
 -- what an INSERT that is not refused finds
-record HasRoom (c : Control) (table : Table) (name : EntryName) (rows_needed : ℕ) (entries : List Entry) : Type 0 where
+record HasRoom (c : ControlState) (table : Table) (name : EntryName) (rows_needed : ℕ) (entries : List Entry) : Type 0 where
   unnamed : is_some (entry_named name entries) ≡ false
   size : entries_of table entries + 1 ≤ table_size table
   rows : rows_used c + rows_needed ≤ c.rows
@@ -113,7 +113,7 @@ none_passes false true c d h = absurd (cc)
 none_passes false false true d h = absurd (cc)
 none_passes false false false true h = absurd (cc)
 
-has_room : (c : Control) (table : Table) (old : Plane) (change : EntryChange) → c.next_slot ≤ slot_limit → 1 ≤ entry_rows change.action → insert_cause_in (Some table) (room_of c) old change ≡ None
+has_room : (c : ControlState) (table : Table) (old : Plane) (change : EntryChange) → c.next_slot ≤ slot_limit → 1 ≤ entry_rows change.action → insert_cause_in (Some table) (room_of c) old change ≡ None
     → HasRoom c table change.name (entry_rows change.action) old.entries
 has_room c table old change limit some none =
     let entries = old.entries in
@@ -156,7 +156,7 @@ found_passes p [] x is = absurd (cc)
 found_passes p (y ∷ xs) x is = passes_here p (p y) x y (find p xs) refl is (found_passes p xs x)
 
 -- with one entry more of its table no table exceeds its size
-size_of : (c : Control) (old : Plane) (table : Table) (name : EntryName) → IsKeptPlane old → table_of name.table old.config.info ≡ Some table → (rows_needed : ℕ) → HasRoom c table name rows_needed old.entries
+size_of : (c : ControlState) (old : Plane) (table : Table) (name : EntryName) → IsKeptPlane old → table_of name.table old.config.info ≡ Some table → (rows_needed : ℕ) → HasRoom c table name rows_needed old.entries
     → (b : Bool) (id : ℕ) (other : Table) → eqb name.table id ≡ b → table_of id old.config.info ≡ Some other → count_by (λ entry. entry.name.table == id) old.entries + cond b 1 0 ≤ table_size other
 size_of c old table name k found needed room false id other differs is = omega (arith, k.sizes id other is)
 size_of c old table name k found needed room true id other same is =
@@ -173,7 +173,7 @@ slot_drawn true x slot next is = let same = ap (λ n. cond {A = ℕ} (eqb x n) 1
 slot_drawn false x slot next is = let same : next + 0 ≡ next = omega arith in rw same (omega arith)
 
 -- the entries with a new one
-more_stand : (c : Control) (old : Plane) (table : Table) (change : EntryChange) → IsTarget c old → table_of change.name.table old.config.info ≡ Some table → HasRoom c table change.name (entry_rows change.action) old.entries
+more_stand : (c : ControlState) (old : Plane) (table : Table) (change : EntryChange) → IsTarget c old → table_of change.name.table old.config.info ≡ Some table → HasRoom c table change.name (entry_rows change.action) old.entries
     → MayStand c old (record old { entries = inserted (new_entry table (room_of c) change) old.entries }) (c.next + 1) (c.next_slot + slots_drawn table)
 more_stand c old table change t found room =
     let entry : Entry = new_entry table (room_of c) change in
@@ -214,7 +214,7 @@ more_stand c old table change t found room =
       slot_limit = room.slots;
     }
 
-inserted_kept : (o : Option Table) (c : Control) (old : Plane) (change : EntryChange) → table_of change.name.table old.config.info ≡ o → IsTarget c old → insert_cause_in o (room_of c) old change ≡ None → IsKept (inserted_in o c old change)
+inserted_kept : (o : Option Table) (c : ControlState) (old : Plane) (change : EntryChange) → table_of change.name.table old.config.info ≡ o → IsTarget c old → insert_cause_in o (room_of c) old change ≡ None → IsKept (inserted_in o c old change)
 inserted_kept None c old change found t none = t.kept
 inserted_kept (Some table) c old change found t none = t.replaced _ _ _ (more_stand c old table change t found (has_room c table old change t.kept.slot_limit (takes_one change.action) none))
 
@@ -233,7 +233,7 @@ pub sum-of-modified : (f : Entry → ℕ) (change : EntryChange) (former : Entry
 unfolding entry_named modified
 sum-of-modified f change former entries stand named = sum-replaced (λ e. same_name change.name e.name) (with_change change) f former entries (stand_once change.name entries stand) named
 
-modified_kept : (found : Option Entry) (c : Control) (old : Plane) (change : EntryChange) → entry_named change.name old.entries ≡ found → IsTarget c old → modify_cause_in found (room_of c) old change ≡ None
+modified_kept : (found : Option Entry) (c : ControlState) (old : Plane) (change : EntryChange) → entry_named change.name old.entries ≡ found → IsTarget c old → modify_cause_in found (room_of c) old change ≡ None
     → IsKept (with_target c (record old { entries = modified change old.entries }))
 modified_kept None c old change named t none = absurd (cc)
 modified_kept (Some former) c old change named t none =
@@ -245,7 +245,7 @@ modified_kept (Some former) c old change named t none =
     (omega (arith, room, sum, t.kept.rows)))
 
 -- a change of the default actions or the digests
-beside_kept : (c : Control) (old : Plane) (changed_defaults : List DefaultAction) (told : List DigestEntry) → IsTarget c old → IsKept (with_target c (record old { changed = changed_defaults; digests = told }))
+beside_kept : (c : ControlState) (old : Plane) (changed_defaults : List DefaultAction) (told : List DigestEntry) → IsTarget c old → IsKept (with_target c (record old { changed = changed_defaults; digests = told }))
 beside_kept c old changed_defaults told t = with_same_next c old _ t record {
   plane = record { stand = t.is_kept.stand; sizes = t.is_kept.sizes; members = t.is_kept.members; groups = t.is_kept.groups };
   numbers = λ x. omega arith;
@@ -256,7 +256,7 @@ beside_kept c old changed_defaults told t = with_same_next c old _ t record {
 }
 
 -- a change of the members and groups
-profiles_kept : (c : Control) (old : Plane) (members : List Member) (groups : List Group) → IsTarget c old → MayHave (c.rows - rows_used c) old members groups
+profiles_kept : (c : ControlState) (old : Plane) (members : List Member) (groups : List Group) → IsTarget c old → MayHave (c.rows - rows_used c) old members groups
     → IsKept (with_target c (record old { members = members; groups = groups }))
 profiles_kept c old members groups t may = with_same_next c old _ t record {
   plane = record { stand = t.is_kept.stand; sizes = t.is_kept.sizes; members = may.members; groups = may.groups };
@@ -267,7 +267,7 @@ profiles_kept c old members groups t may = with_same_next c old _ t record {
   slot_limit = t.kept.slot_limit;
 }
 
-profile_kept : (change : ProfileChange) (c : Control) (old : Plane) → IsTarget c old → profile_cause (room_of c) old change ≡ None → IsKept (with_target c (profile_changed old change))
+profile_kept : (change : ProfileChange) (c : ControlState) (old : Plane) → IsTarget c old → profile_cause (room_of c) old change ≡ None → IsKept (with_target c (profile_changed old change))
 profile_kept (profile_changes.InsertMember member) c old t none = profiles_kept c old _ old.groups t (member_more (room_of c) old member t.is_kept.members t.is_kept.groups none)
 profile_kept (profile_changes.ModifyMember member) c old t none = profiles_kept c old _ old.groups t (member_other (room_of c).rows old member t.is_kept.members t.is_kept.groups)
 profile_kept (profile_changes.DeleteMember profile id) c old t none = profiles_kept c old _ old.groups t (member_fewer (room_of c).rows old profile id t.is_kept.members t.is_kept.groups)
@@ -276,7 +276,7 @@ profile_kept (profile_changes.ModifyGroup group) c old t none =
     profiles_kept c old old.members _ t (group_other (group_of group.profile group.id old.groups) (room_of c) old group refl t.is_kept.members t.is_kept.groups none)
 profile_kept (profile_changes.DeleteGroup profile id) c old t none = profiles_kept c old old.members _ t (group_fewer (room_of c).rows old profile id t.is_kept.members t.is_kept.groups)
 
-changed_kept : (change : Change) (c : Control) (old : Plane) → IsTarget c old → change_cause (room_of c) old change ≡ None → IsKept (changed c old change)
+changed_kept : (change : Change) (c : ControlState) (old : Plane) → IsTarget c old → change_cause (room_of c) old change ≡ None → IsKept (changed c old change)
 changed_kept (changes.InsertEntry change) c old t none = inserted_kept _ c old change refl t none
 changed_kept (changes.ModifyEntry change) c old t none = modified_kept _ c old change refl t none
 changed_kept (changes.DeleteEntry name) c old t none =
@@ -286,15 +286,15 @@ changed_kept (changes.ModifyDefault table action) c old t none = beside_kept c o
 changed_kept (changes.Profile change) c old t none = profile_kept change c old t none
 changed_kept (changes.Digest change) c old t none = beside_kept c old old.changed (digests_changed old.digests change) t
 
-unless_kept : (o : Option Cause) (change : Change) (c : Control) (old : Plane) → change_cause (room_of c) old change ≡ o → IsTarget c old → IsKept (changed_unless o c old change)
+unless_kept : (o : Option Cause) (change : Change) (c : ControlState) (old : Plane) → change_cause (room_of c) old change ≡ o → IsTarget c old → IsKept (changed_unless o c old change)
 unless_kept None change c old none t = changed_kept change c old t none
 unless_kept (Some cause) change c old is t = t.kept
 
 -- the same state with these planes
-abbrev pub with_planes : Control → Option Plane → Option Plane → Control
+abbrev pub with_planes : ControlState → Option Plane → Option Plane → ControlState
 with_planes c active staged = record c { active = active; staged = staged }
 
-staged_target : (c : Control) (active : Option Plane) (plane : Plane) → IsKept (with_planes c active (Some plane)) → IsTarget (with_planes c active (Some plane)) plane
+staged_target : (c : ControlState) (active : Option Plane) (plane : Plane) → IsKept (with_planes c active (Some plane)) → IsTarget (with_planes c active (Some plane)) plane
 staged_target c active plane k = record {
   kept = k;
   is_kept = k.staged_plane;
@@ -310,7 +310,7 @@ staged_target c active plane k = record {
   };
 }
 
-active_target : (c : Control) (plane : Plane) → IsKept (with_planes c (Some plane) None) → IsTarget (with_planes c (Some plane) None) plane
+active_target : (c : ControlState) (plane : Plane) → IsKept (with_planes c (Some plane) None) → IsTarget (with_planes c (Some plane) None) plane
 active_target c plane k = record {
   kept = k;
   is_kept = k.active_plane;
@@ -326,15 +326,15 @@ active_target c plane k = record {
   };
 }
 
-in_kept : (active staged : Option Plane) (change : Change) (c : Control) → IsKept (with_planes c active staged) → IsKept (changed_in (or_else staged active) (with_planes c active staged) change)
+in_kept : (active staged : Option Plane) (change : Change) (c : ControlState) → IsKept (with_planes c active staged) → IsKept (changed_in (or_else staged active) (with_planes c active staged) change)
 in_kept active (Some plane) change c k = unless_kept _ change (with_planes c active (Some plane)) plane refl (staged_target c active plane k)
 in_kept (Some plane) None change c k = unless_kept _ change (with_planes c (Some plane) None) plane refl (active_target c plane k)
 in_kept None None change c k = k
 
-change_kept : (change : Change) (c : Control) → IsKept c → IsKept (change_applied c change)
+change_kept : (change : Change) (c : ControlState) → IsKept c → IsKept (change_applied c change)
 unfolding change_applied
 change_kept change c k = in_kept c.active c.staged change c k
 
-pub changes_kept : (list : List Change) (c : Control) → IsKept c → IsKept (fold change_applied c list)
+pub changes_kept : (list : List Change) (c : ControlState) → IsKept c → IsKept (fold change_applied c list)
 changes_kept [] c k = k
 changes_kept (change ∷ list) c k = changes_kept list (change_applied c change) (change_kept change c k)

@@ -7,7 +7,7 @@ use Rattle.p4_types.specs.declared.profiles.Member.{Member}
 use Rattle.plane_spec.specs.Config.{Config, cells_in}
 use Rattle.plane_spec.specs.Entries.{slot_limit, table_size}
 use Rattle.plane_spec.specs.Objects.{table_of}
-use Rattle.plane_spec.specs.Planes.{Control, Plane, rows_in, made_plane}
+use Rattle.plane_spec.specs.Planes.{ControlState, Plane, rows_in, made_plane}
 use Rattle.plane_spec.specs.PlaneLaws.{numbers_of, slots_of, IsSoundPlane, IsSoundControl}
 use Rattle.plane_spec.proofs.Drawn.{times, drawn, times-append, times-numbers_from, below_next, distinct}
 use Rattle.plane_spec.proofs.EntryOrder.{Stand, in_order}
@@ -42,7 +42,7 @@ pub record AreKept (active staged : Option Plane) (next next_slot limit : ℕ) :
   pub number_limit : next ≤ 2 ^ 64 - 1
   pub slot_limit : next_slot ≤ slot_limit
 
-abbrev pub IsKept : Control → Type 0
+abbrev pub IsKept : ControlState → Type 0
 IsKept c = AreKept c.active c.staged c.next c.next_slot c.rows
 
 sound_plane : (o : Option Plane) → IfSome o IsKeptPlane → IfSome o IsSoundPlane
@@ -54,7 +54,7 @@ sound_plane (Some plane) h = record {
   groups = rising_pairs (λ (g : Group). g.profile) (λ g. g.id) plane.groups h.groups;
 }
 
-pub sound : (c : Control) → IsKept c → IsSoundControl c
+pub sound : (c : ControlState) → IsKept c → IsSoundControl c
 sound c k =
     let numbers : (x : ℕ) → times x (numbers_of c.active ++ numbers_of c.staged) ≤ drawn c.next x = λ x. omega (arith, k.numbers x, times-append x (numbers_of c.active) (numbers_of c.staged)) in
     let slots : (x : ℕ) → times x (slots_of c.active ++ slots_of c.staged) ≤ drawn c.next_slot x = λ x. omega (arith, k.slots x, times-append x (slots_of c.active) (slots_of c.staged)) in record {

@@ -17,7 +17,7 @@ use Rattle.plane_spec.specs.Config.{Config, Committed, Event, cells_in}
 use Rattle.plane_spec.specs.Entries.{is_counted, same_name, new_entry, next_number, next_slot, slots_drawn, inserted, modified, deleted, with_change}
 use Rattle.plane_spec.specs.Legal.{Legal}
 use Rattle.plane_spec.specs.Objects.{table_of}
-use Rattle.plane_spec.specs.Planes.{profile_changed, Control, Plane, room_of, or_else, with_target, inserted_in, changed, changed_unless, changed_in, change_applied, apply, applied, made_plane, staged_committed, committed}
+use Rattle.plane_spec.specs.Planes.{profile_changed, ControlState, Plane, room_of, or_else, with_target, inserted_in, changed, changed_unless, changed_in, change_applied, apply, applied, made_plane, staged_committed, committed}
 use Rattle.plane_spec.proofs.ChangedPlanes.{put, same_next, with_planes, changes_kept}
 use Rattle.plane_spec.proofs.KeptPlanes.{IsKept}
 use Rattle.plane_spec.proofs.SoundPlanes.{event_kept}
@@ -39,7 +39,7 @@ pub record HoldIn (P : ℕ → Option ℕ → Type 0) (Q : ℕ → ℕ → Type 
   pub in_staged : IfSome staged (Holds P Q)
   pub fresh : IsFresh P Q next next_slot
 
-abbrev pub Hold : (ℕ → Option ℕ → Type 0) → (ℕ → ℕ → Type 0) → Control → Type 0
+abbrev pub Hold : (ℕ → Option ℕ → Type 0) → (ℕ → ℕ → Type 0) → ControlState → Type 0
 Hold P Q c = HoldIn P Q c.active c.staged c.next c.next_slot
 
 fresh_later : (P : ℕ → Option ℕ → Type 0) (Q : ℕ → ℕ → Type 0) (next next_slot later later_slot : ℕ) → next ≤ later → next_slot ≤ later_slot
@@ -65,14 +65,14 @@ committed_hold : (P : ℕ → Option ℕ → Type 0) (Q : ℕ → ℕ → Type 0
 committed_hold P Q active plane next next_slot h = record { in_active = h.in_staged; in_staged = tt; fresh = h.fresh }
 
 -- the plane is the target, and another of which it holds may stand in its place
-record IsTarget (P : ℕ → Option ℕ → Type 0) (Q : ℕ → ℕ → Type 0) (c : Control) (plane : Plane) : Type 0 where
+record IsTarget (P : ℕ → Option ℕ → Type 0) (Q : ℕ → ℕ → Type 0) (c : ControlState) (plane : Plane) : Type 0 where
   kept : IsKept c
   hold : Hold P Q c
   own : Holds P Q plane
   replaced : (new : Plane) (next next_slot : ℕ) → c.next ≤ next → c.next_slot ≤ next_slot → Holds P Q new → Hold P Q (put c new next next_slot)
 
 -- a change that draws nothing
-drawing_nothing : (P : ℕ → Option ℕ → Type 0) (Q : ℕ → ℕ → Type 0) (c : Control) (old new : Plane) → IsTarget P Q c old → Holds P Q new → Hold P Q (with_target c new)
+drawing_nothing : (P : ℕ → Option ℕ → Type 0) (Q : ℕ → ℕ → Type 0) (c : ControlState) (old new : Plane) → IsTarget P Q c old → Holds P Q new → Hold P Q (with_target c new)
 drawing_nothing P Q c old new t h =
     let now : Hold P Q (put c new c.next c.next_slot) = t.replaced new c.next c.next_slot (le_refl c.next) (le_refl c.next_slot) h in
     subst (Hold P Q) (sym (same_next (is_some c.staged) c new)) now
@@ -106,7 +106,7 @@ deleted_holds : (P : ℕ → Option ℕ → Type 0) (name : EntryName) (entries 
 unfolding deleted
 deleted_holds P name entries old = All-filter (λ (e : Entry). not (same_name name e.name)) (λ e. P e.seq e.slot) entries old
 
-insert_hold : (P : ℕ → Option ℕ → Type 0) (Q : ℕ → ℕ → Type 0) (o : Option Table) (c : Control) (old : Plane) (change : EntryChange) → IsTarget P Q c old → Hold P Q (inserted_in o c old change)
+insert_hold : (P : ℕ → Option ℕ → Type 0) (Q : ℕ → ℕ → Type 0) (o : Option Table) (c : ControlState) (old : Plane) (change : EntryChange) → IsTarget P Q c old → Hold P Q (inserted_in o c old change)
 insert_hold P Q None c old change t = t.hold
 insert_hold P Q (Some table) c old change t =
     let entry : Entry = new_entry table (room_of c) change in
@@ -125,7 +125,7 @@ profile_holds P Q (profile_changes.InsertGroup group) old h = record { entries =
 profile_holds P Q (profile_changes.ModifyGroup group) old h = record { entries = h.entries; cells = h.cells }
 profile_holds P Q (profile_changes.DeleteGroup profile id) old h = record { entries = h.entries; cells = h.cells }
 
-changed_hold : (P : ℕ → Option ℕ → Type 0) (Q : ℕ → ℕ → Type 0) (change : Change) (c : Control) (old : Plane) → IsTarget P Q c old → Hold P Q (changed c old change)
+changed_hold : (P : ℕ → Option ℕ → Type 0) (Q : ℕ → ℕ → Type 0) (change : Change) (c : ControlState) (old : Plane) → IsTarget P Q c old → Hold P Q (changed c old change)
 changed_hold P Q (changes.InsertEntry change) c old t = insert_hold P Q (table_of change.name.table old.config.info) c old change t
 changed_hold P Q (changes.ModifyEntry change) c old t =
     drawing_nothing P Q c old (record old { entries = modified change old.entries }) t record { entries = modified_holds P change old.entries t.own.entries; cells = t.own.cells }
@@ -135,11 +135,11 @@ changed_hold P Q (changes.ModifyDefault table action) c old t = drawing_nothing 
 changed_hold P Q (changes.Profile change) c old t = drawing_nothing P Q c old _ t (profile_holds P Q change old t.own)
 changed_hold P Q (changes.Digest change) c old t = drawing_nothing P Q c old _ t record { entries = t.own.entries; cells = t.own.cells }
 
-unless_hold : (P : ℕ → Option ℕ → Type 0) (Q : ℕ → ℕ → Type 0) (o : Option Cause) (change : Change) (c : Control) (old : Plane) → IsTarget P Q c old → Hold P Q (changed_unless o c old change)
+unless_hold : (P : ℕ → Option ℕ → Type 0) (Q : ℕ → ℕ → Type 0) (o : Option Cause) (change : Change) (c : ControlState) (old : Plane) → IsTarget P Q c old → Hold P Q (changed_unless o c old change)
 unless_hold P Q None change c old t = changed_hold P Q change c old t
 unless_hold P Q (Some cause) change c old t = t.hold
 
-in_hold : (P : ℕ → Option ℕ → Type 0) (Q : ℕ → ℕ → Type 0) (active staged : Option Plane) (change : Change) (c : Control)
+in_hold : (P : ℕ → Option ℕ → Type 0) (Q : ℕ → ℕ → Type 0) (active staged : Option Plane) (change : Change) (c : ControlState)
     → IsKept (with_planes c active staged) → Hold P Q (with_planes c active staged) → Hold P Q (changed_in (or_else staged active) (with_planes c active staged) change)
 in_hold P Q active (Some plane) change c k h = unless_hold P Q _ change (with_planes c active (Some plane)) plane record {
   kept = k;
@@ -155,24 +155,24 @@ in_hold P Q (Some plane) None change c k h = unless_hold P Q _ change (with_plan
 }
 in_hold P Q None None change c k h = h
 
-change_hold : (P : ℕ → Option ℕ → Type 0) (Q : ℕ → ℕ → Type 0) (change : Change) (c : Control) → IsKept c → Hold P Q c → Hold P Q (change_applied c change)
+change_hold : (P : ℕ → Option ℕ → Type 0) (Q : ℕ → ℕ → Type 0) (change : Change) (c : ControlState) → IsKept c → Hold P Q c → Hold P Q (change_applied c change)
 unfolding change_applied
 change_hold P Q change c k h = in_hold P Q c.active c.staged change c k h
 
-changes_hold : (P : ℕ → Option ℕ → Type 0) (Q : ℕ → ℕ → Type 0) (list : List Change) (c : Control) → IsKept c → Hold P Q c → Hold P Q (fold change_applied c list)
+changes_hold : (P : ℕ → Option ℕ → Type 0) (Q : ℕ → ℕ → Type 0) (list : List Change) (c : ControlState) → IsKept c → Hold P Q c → Hold P Q (fold change_applied c list)
 changes_hold P Q [] c k h = h
 changes_hold P Q (change ∷ list) c k h = changes_hold P Q list (change_applied c change) (changes_kept (change ∷ []) c k) (change_hold P Q change c k h)
 
-staged_hold : (P : ℕ → Option ℕ → Type 0) (Q : ℕ → ℕ → Type 0) (staged : Option Plane) (c : Control) → HoldIn P Q c.active staged c.next c.next_slot → Hold P Q c → Hold P Q (staged_committed staged c)
+staged_hold : (P : ℕ → Option ℕ → Type 0) (Q : ℕ → ℕ → Type 0) (staged : Option Plane) (c : ControlState) → HoldIn P Q c.active staged c.next c.next_slot → Hold P Q c → Hold P Q (staged_committed staged c)
 staged_hold P Q None c h own = own
 staged_hold P Q (Some plane) c h own = committed_hold P Q c.active plane c.next c.next_slot h
 
-commit_hold : (P : ℕ → Option ℕ → Type 0) (Q : ℕ → ℕ → Type 0) (content : Committed) (c : Control) → Hold P Q c → Hold P Q (committed c content)
+commit_hold : (P : ℕ → Option ℕ → Type 0) (Q : ℕ → ℕ → Type 0) (content : Committed) (c : ControlState) → Hold P Q c → Hold P Q (committed c content)
 commit_hold P Q contents.Staged c h = staged_hold P Q c.staged c h h
 commit_hold P Q (contents.Fresh config) c h =
     committed_hold P Q c.active (made_plane c.next_slot config) c.next (c.next_slot + cells_in config) (saved_hold P Q c.active c.staged c.next c.next_slot config h)
 
-event_hold : (P : ℕ → Option ℕ → Type 0) (Q : ℕ → ℕ → Type 0) (event : Event) (c : Control) → IsKept c → Hold P Q c → Hold P Q (apply c event)
+event_hold : (P : ℕ → Option ℕ → Type 0) (Q : ℕ → ℕ → Type 0) (event : Event) (c : ControlState) → IsKept c → Hold P Q c → Hold P Q (apply c event)
 event_hold P Q (events.Arbitrate by config) c k h = h
 event_hold P Q (events.Leave caller call) c k h = h
 event_hold P Q (events.Change by change) c k h = change_hold P Q change c k h
@@ -181,6 +181,6 @@ event_hold P Q (events.Save by config) c k h = saved_hold P Q c.active c.staged 
 event_hold P Q (events.Commit by content) c k h = commit_hold P Q content c h
 event_hold P Q events.Close c k h = h
 
-pub events_hold : (P : ℕ → Option ℕ → Type 0) (Q : ℕ → ℕ → Type 0) (list : List Event) (c : Control) → IsKept c → Legal c list → Hold P Q c → Hold P Q (applied c list)
+pub events_hold : (P : ℕ → Option ℕ → Type 0) (Q : ℕ → ℕ → Type 0) (list : List Event) (c : ControlState) → IsKept c → Legal c list → Hold P Q c → Hold P Q (applied c list)
 events_hold P Q [] c k legal h = h
 events_hold P Q (event ∷ list) c k legal h = events_hold P Q list (apply c event) (event_kept event c k legal.0) legal.1 (event_hold P Q event c k h)

@@ -9,7 +9,7 @@ use Rattle.p4_types.specs.declared.table.Entry.{Entry}
 use Rattle.plane_spec.specs.Config.{Event, cells_in}
 use Rattle.plane_spec.specs.Legal.{Legal}
 use Rattle.plane_spec.specs.PlaneLaws.{numbers_from, numbers_of, slots_of}
-use Rattle.plane_spec.specs.Planes.{Control, Plane, apply, applied}
+use Rattle.plane_spec.specs.Planes.{ControlState, Plane, apply, applied}
 use Rattle.plane_spec.specs.SlotLaws.{HasCell, TellAlike, SlotsStay}
 use Rattle.plane_spec.proofs.Drawn.{times, drawn, slot_times, times-append, times-numbers, times-slots, times-numbers_from, times-itself, was_drawn}
 use Rattle.plane_spec.proofs.KeptPlanes.{IsKept}
@@ -56,7 +56,7 @@ cell_times x None = 0
 cell_times x (Some plane) = times x (numbers_from (cells_in plane.config) plane.cells)
 
 -- the entries of both planes
-abbrev all_of : Control → List Entry
+abbrev all_of : ControlState → List Entry
 all_of c = entries_of c.active ++ entries_of c.staged
 
 numbers_in : (x : ℕ) (o : Option Plane) → times x (numbers_of o) ≡ sum_by (has_number x) (entries_of o)
@@ -71,10 +71,10 @@ slots_in x (Some plane) =
 drawn_once : (next x : ℕ) → drawn next x ≤ 1
 drawn_once next x = grind (arith, nat_tests)
 
-numbers_once : (c : Control) → IsKept c → (x : ℕ) → sum_by (has_number x) (all_of c) ≤ drawn c.next x
+numbers_once : (c : ControlState) → IsKept c → (x : ℕ) → sum_by (has_number x) (all_of c) ≤ drawn c.next x
 numbers_once c k x = omega (arith, k.numbers x, numbers_in x c.active, numbers_in x c.staged, sum_by-append (has_number x) (entries_of c.active) (entries_of c.staged))
 
-slots_once : (c : Control) → IsKept c → (x : ℕ) → sum_by (has_slot x) (all_of c) + (cell_times x c.active + cell_times x c.staged) ≤ drawn c.next_slot x
+slots_once : (c : ControlState) → IsKept c → (x : ℕ) → sum_by (has_slot x) (all_of c) + (cell_times x c.active + cell_times x c.staged) ≤ drawn c.next_slot x
 slots_once c k x = omega (arith, k.slots x, slots_in x c.active, slots_in x c.staged, sum_by-append (has_slot x) (entries_of c.active) (entries_of c.staged))
 
 cell_counts : (first count x : ℕ) → first ≤ x → x < first + count → times x (numbers_from count first) ≡ 1
@@ -119,7 +119,7 @@ both_hold P Q (Some plane) entries cells = record {
 cells_at : (x : ℕ) (o : Option Plane) (plane : Plane) → o ≡ Some plane → cell_times x o ≡ times x (numbers_from (cells_in plane.config) plane.cells)
 cells_at x o plane is = ap (cell_times x) is
 
-entry_holds : (c : Control) (e : Entry) → IsKept c → Contains (all_of c) e → Hold (OfEntry e) (NotAmong e) c
+entry_holds : (c : ControlState) (e : Entry) → IsKept c → Contains (all_of c) e → Hold (OfEntry e) (NotAmong e) c
 entry_holds c e k there =
     let number : 1 ≤ has_number e.seq e = omega (arith, number_counts e.seq e refl) in
     let seq_drawn : e.seq < c.next = was_drawn c.next e.seq (omega (arith, numbers_once c k e.seq, below_one (has_number e.seq) (all_of c) e there)) in
@@ -149,7 +149,7 @@ entry_holds c e k there =
       };
     }
 
-cell_holds : (c : Control) (plane : Plane) (x : ℕ) → IsKept c → c.active ≡ Some plane → HasCell plane x → Hold (NotOf x) Anything c
+cell_holds : (c : ControlState) (plane : Plane) (x : ℕ) → IsKept c → c.active ≡ Some plane → HasCell plane x → Hold (NotOf x) Anything c
 cell_holds c plane x k is cell =
     let one : cell_times x c.active ≡ 1 = cells_at x c.active plane is ∙ cell_counts plane.cells (cells_in plane.config) x cell.0 cell.1 in
     let slot_drawn : x < c.next_slot = was_drawn c.next_slot x (omega (arith, slots_once c k x)) in
@@ -166,16 +166,16 @@ cell_holds c plane x k is cell =
 
 -- ---- The law
 
-plane_holds : (P : ℕ → Option ℕ → Type 0) (Q : ℕ → ℕ → Type 0) (c : Control) (plane : Plane) → c.active ≡ Some plane → Hold P Q c → Holds P Q plane
+plane_holds : (P : ℕ → Option ℕ → Type 0) (Q : ℕ → ℕ → Type 0) (c : ControlState) (plane : Plane) → c.active ≡ Some plane → Hold P Q c → Holds P Q plane
 plane_holds P Q c plane is h = subst (λ (o : Option Plane). IfSome o (Holds P Q)) is h.in_active
 
-in_all : (c : Control) (plane : Plane) (e : Entry) → c.active ≡ Some plane → Contains plane.entries e → Contains (all_of c) e
+in_all : (c : ControlState) (plane : Plane) (e : Entry) → c.active ≡ Some plane → Contains plane.entries e → Contains (all_of c) e
 in_all c plane e is at =
     let own : Contains (entries_of c.active) e = subst (λ (o : Option Plane). Contains (entries_of o) e) (sym is) at in
     Contains-append_left (entries_of c.active) (entries_of c.staged) e own
 
 -- from a state on to the end of the list
-from_here : (list : List Event) (c : Control) (before now : Plane) → IsKept c → Legal c list → c.active ≡ Some before → (applied c list).active ≡ Some now → TellAlike before now
+from_here : (list : List Event) (c : ControlState) (before now : Plane) → IsKept c → Legal c list → c.active ≡ Some before → (applied c list).active ≡ Some now → TellAlike before now
 from_here list c before now k legal is at_end =
     let of_entry : (e : Entry) → Contains before.entries e → Holds (OfEntry e) (NotAmong e) now = λ e at.
     plane_holds (OfEntry e) (NotAmong e) (applied c list) now at_end (events_hold (OfEntry e) (NotAmong e) list c k legal (entry_holds c e k (in_all c before e is at))) in
@@ -189,7 +189,7 @@ from_here list c before now k legal is at_end =
       cells_before = λ f slot there own cell. All-contains (λ (g : Entry). NotOf slot g.seq g.slot) now.entries f (of_cell slot cell).entries there own;
     }
 
-behind : (list : List Event) (n : ℕ) (c : Control) (before now : Plane) → IsKept c → Legal c list → (applied c (take n list)).active ≡ Some before → (applied c list).active ≡ Some now → TellAlike before now
+behind : (list : List Event) (n : ℕ) (c : ControlState) (before now : Plane) → IsKept c → Legal c list → (applied c (take n list)).active ≡ Some before → (applied c list).active ≡ Some now → TellAlike before now
 behind list zero c before now k legal is at_end = from_here list c before now k legal is at_end
 behind [] (suc n) c before now k legal is at_end = from_here [] c before now k legal is at_end
 behind (event ∷ list) (suc n) c before now k legal is at_end = behind list n (apply c event) before now (event_kept event c k legal.0) legal.1 is at_end

@@ -7,23 +7,23 @@ use Rattle.plane_spec.specs.Config.{Config, Committed, Event, cells_in}
 use Rattle.plane_spec.specs.Entries.{slot_limit}
 use Rattle.plane_spec.specs.Legal.{MayCommit, May, Legal}
 use Rattle.plane_spec.specs.PlaneLaws.{PlanesStaySound}
-use Rattle.plane_spec.specs.Planes.{Control, Plane, apply, applied, made_plane, saved, staged_committed, committed}
+use Rattle.plane_spec.specs.Planes.{ControlState, Plane, apply, applied, made_plane, saved, staged_committed, committed}
 use Rattle.plane_spec.proofs.ChangedPlanes.{changes_kept}
 use Rattle.plane_spec.proofs.KeptPlanes.{AreKept, IsKept, sound, kept_at_first, kept_saved, kept_committed}
 
-save_kept : (c : Control) (config : Config) → IsKept c → c.next_slot + cells_in config ≤ slot_limit → IsKept (saved c config)
+save_kept : (c : ControlState) (config : Config) → IsKept c → c.next_slot + cells_in config ≤ slot_limit → IsKept (saved c config)
 save_kept c config k fits = kept_saved c.active c.staged c.next c.next_slot c.rows config k fits
 
-staged_kept : (staged : Option Plane) (c : Control) → AreKept c.active staged c.next c.next_slot c.rows → IsKept c → IsKept (staged_committed staged c)
+staged_kept : (staged : Option Plane) (c : ControlState) → AreKept c.active staged c.next c.next_slot c.rows → IsKept c → IsKept (staged_committed staged c)
 staged_kept None c k own = own
 staged_kept (Some plane) c k own = kept_committed c.active plane c.next c.next_slot c.rows k
 
-commit_kept : (content : Committed) (c : Control) → IsKept c → MayCommit c content → IsKept (committed c content)
+commit_kept : (content : Committed) (c : ControlState) → IsKept c → MayCommit c content → IsKept (committed c content)
 commit_kept contents.Staged c k may = staged_kept c.staged c k k
 commit_kept (contents.Fresh config) c k may =
     kept_committed c.active (made_plane c.next_slot config) c.next (c.next_slot + cells_in config) c.rows (save_kept c config k may.slots)
 
-pub event_kept : (event : Event) (c : Control) → IsKept c → May c event → IsKept (apply c event)
+pub event_kept : (event : Event) (c : ControlState) → IsKept c → May c event → IsKept (apply c event)
 event_kept (events.Arbitrate by config) c k may = k
 event_kept (events.Leave caller call) c k may = k
 event_kept (events.Change by change) c k may = changes_kept (change ∷ []) c k
@@ -32,7 +32,7 @@ event_kept (events.Save by config) c k may = save_kept c config k may.2.slots
 event_kept (events.Commit by content) c k may = commit_kept content c k may.2
 event_kept events.Close c k may = k
 
-events_kept : (list : List Event) (c : Control) → IsKept c → Legal c list → IsKept (applied c list)
+events_kept : (list : List Event) (c : ControlState) → IsKept c → Legal c list → IsKept (applied c list)
 events_kept [] c k legal = k
 events_kept (event ∷ list) c k legal = events_kept list (apply c event) (event_kept event c k legal.0) legal.1
 

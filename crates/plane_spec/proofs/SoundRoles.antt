@@ -11,19 +11,19 @@ use Rattle.p4_types.specs.declared.events.Committed.TheVariants as contents
 use Rattle.plane_spec.specs.Bridge.{bridge_session}
 use Rattle.plane_spec.specs.Config.{Committed, Event}
 use Rattle.plane_spec.specs.Legal.{May, Legal}
-use Rattle.plane_spec.specs.Planes.{Control, Plane, apply, applied, staged_committed, committed}
+use Rattle.plane_spec.specs.Planes.{ControlState, Plane, apply, applied, staged_committed, committed}
 use Rattle.plane_spec.specs.RoleLaws.{RolesStaySound}
 use Rattle.plane_spec.proofs.Steady.{change_steady, fold_roles}
 
-staged_roles : (o : Option Plane) (c : Control) → (staged_committed o c).roles ≡ c.roles
+staged_roles : (o : Option Plane) (c : ControlState) → (staged_committed o c).roles ≡ c.roles
 staged_roles None c = refl
 staged_roles (Some plane) c = refl
 
-committed_roles : (content : Committed) (c : Control) → (committed c content).roles ≡ c.roles
+committed_roles : (content : Committed) (c : ControlState) → (committed c content).roles ≡ c.roles
 committed_roles contents.Staged c = staged_roles c.staged c
 committed_roles (contents.Fresh config) c = refl
 
-after_event : (event : Event) (c : Control) → IsSound c.roles → May c event → IsSound (apply c event).roles
+after_event : (event : Event) (c : ControlState) → IsSound c.roles → May c event → IsSound (apply c event).roles
 after_event (events.Arbitrate by config) c sound may =
     let m = may.1 in
     let kept = stays_sound.arbitration c.roles by.caller m.update sound m.no_cause in
@@ -35,7 +35,7 @@ after_event (events.Save by config) c sound may = sound
 after_event (events.Commit by content) c sound may = subst IsSound (sym (committed_roles content c)) sound
 after_event events.Close c sound may = sound
 
-after_events : (list : List Event) (c : Control) → IsSound c.roles → Legal c list → IsSound (applied c list).roles
+after_events : (list : List Event) (c : ControlState) → IsSound c.roles → Legal c list → IsSound (applied c list).roles
 after_events [] c sound legal = sound
 after_events (event ∷ list) c sound legal = after_events list (apply c event) (after_event event c sound legal.0) legal.1
 

@@ -2,6 +2,7 @@
 use Rattle.std.specs.Prelude.{ℕ, ◌+◌, ◌-◌, ◌/◌, ◌^◌, ◌==◌, ◌&&◌, ◌||◌, not, nat_lt, nat_le, int_lt, bit_and, Bool, true, false, if◌then◌else◌, List, [], ◌∷◌, ◌++◌, length, filter, find, map, count_by, Option, Some, None, is_some}
 use Rattle.std.specs.List.{list_any}
 use Rattle.std.specs.Ordering.{int_eq}
+use Rattle.p4_types.specs.declared.events.TheConstants.{SLOT_LIMIT}
 use Rattle.p4_types.specs.declared.code.Cause.{Cause}
 use Rattle.p4_types.specs.declared.code.Code.TheVariants as codes
 use Rattle.p4_types.specs.declared.code.Rule.TheVariants as rules
@@ -98,7 +99,7 @@ slots_drawn table = if is_counted table then 1 else 0
 
 -- how many slots of counters the switch has
 abbrev pub slot_limit : ℕ
-slot_limit = 1048576
+slot_limit = SLOT_LIMIT
 
 -- the sequence number that an INSERT draws
 abbrev pub next_number : Room → ℕ

@@ -9,7 +9,7 @@ use Rattle.plane_spec.specs.Legal.{Legal}
 use Rattle.plane_spec.specs.Objects.{table_of}
 use Rattle.plane_spec.specs.Order.{StandsBefore}
 use Rattle.plane_spec.specs.Profiles.{stands_before}
-use Rattle.plane_spec.specs.Planes.{Control, Plane, opened, applied, rows_used}
+use Rattle.plane_spec.specs.Planes.{ControlState, Plane, opened, applied, rows_used}
 
 -- so many numbers, from this one on
 abbrev pub numbers_from : ℕ → ℕ → List ℕ
@@ -34,7 +34,7 @@ pub record IsSoundPlane (plane : Plane) : Type 0 where
   pub sizes : (id : ℕ) (table : Table) → table_of id plane.config.info ≡ Some table → count_by (λ entry. entry.name.table == id) plane.entries ≤ table_size table
 
 -- both planes are sound, what they drew was drawn once and is below what is drawn next, and the limits are kept
-pub record IsSoundControl (c : Control) : Type 0 where
+pub record IsSoundControl (c : ControlState) : Type 0 where
   pub active : IfSome c.active IsSoundPlane
   pub staged : IfSome c.staged IsSoundPlane
   pub numbers : All (λ seq. seq < c.next) (numbers_of c.active ++ numbers_of c.staged)

@@ -39,7 +39,7 @@ use Rattle.plane_spec.specs.Config.{Config, Committed, Event, cells_in, own_defa
 use Rattle.plane_spec.specs.Entries.{slot_limit, entry_named, is_full, absence_cause, new_entry, slots_drawn, inserted, modified, deleted}
 use Rattle.plane_spec.specs.Objects.{table_of, action_profile_of}
 use Rattle.plane_spec.specs.Profiles.{member_of, group_of, member_inserted, member_modified, member_deleted, group_inserted, group_modified, group_deleted, member_uses, group_uses, set_size, set_actions, members_in, groups_in, profile_size, is_overweight, weight_of, set_weight, entry_rows, group_rows}
-use Rattle.plane_spec.specs.UpdateRules.{caused, unless}
+use Rattle.plane_spec.specs.UpdateRules.{caused, change_unless}
 use Rattle.plane_spec.specs.Updates.{resolution}
 
 -- the state of a program
@@ -59,7 +59,7 @@ pub record Plane : Type 0 where
   pub cells : ℕ
 
 -- the control state of the switch: what calls are answered from, and what events change
-pub record Control : Type 0 where
+pub record ControlState : Type 0 where
   pub device : ℕ
   -- the port at which packets from and to a controller pass
   pub cpu : ℕ
@@ -83,7 +83,7 @@ abbrev pub made_plane : ℕ → Config → Plane
 made_plane slot config = record { config = config; entries = []; changed = []; members = []; groups = []; digests = []; cells = slot }
 
 -- The bridge starts with an empty table and its session. It has no counters.
-abbrev pub opened : Start → Control
+abbrev pub opened : Start → ControlState
 opened start = record {
   device = start.device;
   cpu = start.cpu;
@@ -102,11 +102,11 @@ or_else (Some x) other = Some x
 or_else None other = other
 
 -- the plane that controllers write and read: the staged one where there is one, else the active one
-abbrev pub target : Control → Option Plane
+abbrev pub target : ControlState → Option Plane
 target c = or_else c.staged c.active
 
 -- the session of a role's primary, if it has one
-abbrev pub primary : Control → ℕ → Option Session
+abbrev pub primary : ControlState → ℕ → Option Session
 primary c role = primary_of c.roles role
 
 -- an election id is that of the primary, if there is one, and not 0
@@ -120,7 +120,7 @@ scope_in None = None
 scope_in (Some p) = p.config
 
 -- the ids that a role's primary may write, or none where it may write all
-abbrev pub scope_of : Control → ℕ → Option (List ℕ)
+abbrev pub scope_of : ControlState → ℕ → Option (List ℕ)
 scope_of c role = scope_in (primary c role)
 
 -- how many rows a plane takes: its entries, members and groups
@@ -133,11 +133,11 @@ rows_in None = 0
 rows_in (Some plane) = rows_of plane
 
 -- how many rows both planes take
-abbrev pub rows_used : Control → ℕ
+abbrev pub rows_used : ControlState → ℕ
 rows_used c = rows_in c.active + rows_in c.staged
 
 -- what is left to be drawn
-abbrev pub room_of : Control → Room
+abbrev pub room_of : ControlState → Room
 room_of c = record { rows = c.rows - rows_used c; slots = slot_limit - c.next_slot; numbers = 2 ^ 64 - 1 - c.next }
 
 -- a cause that is asked behind another
@@ -286,15 +286,15 @@ abbrev pub default_entry : Plane → ℕ → Option DefaultAction
 default_entry plane table = or_else (default_in table plane.changed) (default_in table (own_defaults plane.config.program))
 
 -- with another plane in the place of the target
-abbrev pub with_target : Control → Plane → Control
+abbrev pub with_target : ControlState → Plane → ControlState
 with_target c plane = if is_some c.staged then record c { staged = Some plane } else record c { active = Some plane }
 
 -- with other entries in the target plane
-abbrev pub with_entries : Control → Plane → List Entry → Control
+abbrev pub with_entries : ControlState → Plane → List Entry → ControlState
 with_entries c plane entries = with_target c (record plane { entries = entries })
 
 -- with an entry more, and the numbers that it draws
-abbrev pub inserted_in : Option Table → Control → Plane → EntryChange → Control
+abbrev pub inserted_in : Option Table → ControlState → Plane → EntryChange → ControlState
 inserted_in None c plane change = c
 inserted_in (Some table) c plane change =
     record (with_entries c plane (inserted (new_entry table (room_of c) change) plane.entries)) { next = c.next + 1; next_slot = c.next_slot + slots_drawn table }
@@ -319,7 +319,7 @@ digests_changed entries (digest_changes.Modify entry) = with_digest entry entrie
 digests_changed entries (digest_changes.Delete digest) = filter (λ other. not (other.digest_id == digest)) entries
 
 -- the state after a change of the target plane that is not refused
-abbrev pub changed : Control → Plane → Change → Control
+abbrev pub changed : ControlState → Plane → Change → ControlState
 changed c plane (changes.InsertEntry change) = inserted_in (table_of change.name.table plane.config.info) c plane change
 changed c plane (changes.ModifyEntry change) = with_entries c plane (modified change plane.entries)
 changed c plane (changes.DeleteEntry name) = with_entries c plane (deleted name plane.entries)
@@ -328,17 +328,17 @@ changed c plane (changes.Profile change) = with_target c (profile_changed plane 
 changed c plane (changes.Digest change) = with_target c (record plane { digests = digests_changed plane.digests change })
 
 -- the state after a change, which stays where there is a cause to refuse it
-abbrev pub changed_unless : Option Cause → Control → Plane → Change → Control
+abbrev pub changed_unless : Option Cause → ControlState → Plane → Change → ControlState
 changed_unless None c plane change = changed c plane change
 changed_unless (Some cause) c plane change = c
 
 -- the same, which stays too where there is no plane
-abbrev pub changed_in : Option Plane → Control → Change → Control
+abbrev pub changed_in : Option Plane → ControlState → Change → ControlState
 changed_in None c change = c
 changed_in (Some plane) c change = changed_unless (change_cause (room_of c) plane change) c plane change
 
 -- the state after a change of the target plane; one that cannot take effect leaves it
-unfoldable pub change_applied : Control → Change → Control
+unfoldable pub change_applied : ControlState → Change → ControlState
 change_applied c change = changed_in (target c) c change
 
 -- the session that an arbitration makes, with a configuration or without
@@ -346,25 +346,25 @@ abbrev pub session_by : Origin → Option (List ℕ) → Session
 session_by by config = record { caller = by.caller; role = by.role; election_id = by.election_id; config = config }
 
 -- with other roles
-abbrev pub with_roles : Control → RolesState → Control
+abbrev pub with_roles : ControlState → RolesState → ControlState
 with_roles c roles = record c { roles = roles }
 
 -- a plane of a configuration is staged, in the place of one that was
-abbrev pub saved : Control → Config → Control
+abbrev pub saved : ControlState → Config → ControlState
 saved c config = record c { staged = Some (made_plane c.next_slot config); next_slot = c.next_slot + cells_in config }
 
 -- the staged plane becomes the active one; without one nothing changes
-abbrev pub staged_committed : Option Plane → Control → Control
+abbrev pub staged_committed : Option Plane → ControlState → ControlState
 staged_committed None c = c
 staged_committed (Some plane) c = record c { active = Some plane; staged = None }
 
 -- a plane becomes the active one, and none is staged
-abbrev pub committed : Control → Committed → Control
+abbrev pub committed : ControlState → Committed → ControlState
 committed c contents.Staged = staged_committed c.staged c
 committed c (contents.Fresh config) = record c { active = Some (made_plane c.next_slot config); staged = None; next_slot = c.next_slot + cells_in config }
 
 -- the state after an event; one that cannot take effect leaves it
-abbrev pub apply : Control → Event → Control
+abbrev pub apply : ControlState → Event → ControlState
 apply c (events.Arbitrate by config) = with_roles c (settled c.roles (session_by by config))
 apply c (events.Leave caller call) = with_roles c (left c.roles caller)
 apply c (events.Change by change) = change_applied c change
@@ -374,33 +374,33 @@ apply c (events.Commit by content) = committed c content
 apply c events.Close = record c { closed = true }
 
 -- the state after events in order
-abbrev pub applied : Control → List Event → Control
+abbrev pub applied : ControlState → List Event → ControlState
 applied c list = fold apply c list
 
 -- what an update does: it changes something, or breaks a rule
 abbrev pub checked : Room → Plane → Result Change Cause → Result Change Cause
 checked room plane (Err cause) = Err cause
-checked room plane (Ok change) = unless (change_cause room plane change) change
+checked room plane (Ok change) = change_unless (change_cause room plane change) change
 
 -- what an update does to a plane, or why it is refused; without a plane no table is known
-abbrev pub outcome_in : Option Plane → Control → ℕ → Update → Result Change Cause
+abbrev pub outcome_in : Option Plane → ControlState → ℕ → Update → Result Change Cause
 outcome_in None c role update = Err (record { rule = rules.U3; code = codes.NotFound })
 outcome_in (Some plane) c role update = checked (room_of c) plane (resolution plane.config.info (scope_of c role) update)
 
 -- what an update of a role's primary does in this state: the first rule of U1 to U12 that it breaks, or its change
-unfoldable pub outcome : Control → ℕ → Update → Result Change Cause
+unfoldable pub outcome : ControlState → ℕ → Update → Result Change Cause
 outcome c role update = outcome_in (target c) c role update
 
 -- the state after an update: one that fails leaves it
-abbrev pub state_after : Control → Result Change Cause → Control
+abbrev pub state_after : ControlState → Result Change Cause → ControlState
 state_after c (Ok change) = change_applied c change
 state_after c (Err cause) = c
 
 -- what each update of a list does in the state that the earlier ones left
-abbrev pub outcomes : Control → ℕ → List Update → List (Result Change Cause)
+abbrev pub outcomes : ControlState → ℕ → List Update → List (Result Change Cause)
 outcomes c role [] = []
 outcomes c role (update ∷ updates) = outcome c role update ∷ outcomes (state_after c (outcome c role update)) role updates
 
 -- the state after the first n steps of the list; Close is none, and comes last
-abbrev pub after : Start → List Event → ℕ → Control
+abbrev pub after : Start → List Event → ℕ → ControlState
 after start list n = applied (opened start) (take n list)

@@ -24,7 +24,7 @@ use Rattle.p4_types.specs.declared.table.DigestChange.TheVariants as digest_chan
 use Rattle.p4_types.specs.declared.table.UpdateKind.{UpdateKind}
 use Rattle.p4_types.specs.declared.table.UpdateKind.TheVariants as kinds
 use Rattle.plane_spec.specs.Objects.{action_profile_of, digest_of}
-use Rattle.plane_spec.specs.UpdateRules.{repeats, brings, is_zero, is_foreign, is_watched, is_weight, natural, profile_call_flaw, call_by, caused, caused_by, unless}
+use Rattle.plane_spec.specs.UpdateRules.{repeats, brings, is_zero, is_foreign, is_watched, is_weight, natural, profile_call_flaw, call_by, caused, caused_by, change_unless}
 
 -- U9 on a member that an update brings; a DELETE's action is not looked at
 abbrev pub member_flaw : Info → Option ActionProfile → UpdateKind → ActionProfileMember → Option Code
@@ -127,13 +127,13 @@ digest_change kinds.Delete entry = digest_changes.Delete entry.digest_id
 -- an update of a member: the first rule of U3 to U9 that it breaks, or what it changes
 abbrev pub member_resolution : Info → Option (List ℕ) → UpdateKind → ActionProfileMember → Result Change Cause
 member_resolution info scope kind member =
-    unless (member_cause info scope kind member (action_profile_of member.action_profile_id info)) (changes.Profile (member_change info kind member))
+    change_unless (member_cause info scope kind member (action_profile_of member.action_profile_id info)) (changes.Profile (member_change info kind member))
 
 -- the same of a group, from U2 on
 abbrev pub group_resolution : Info → Option (List ℕ) → UpdateKind → ActionProfileGroup → Result Change Cause
 group_resolution info scope kind group =
-    unless (group_cause scope kind group (action_profile_of group.action_profile_id info)) (changes.Profile (group_change kind group))
+    change_unless (group_cause scope kind group (action_profile_of group.action_profile_id info)) (changes.Profile (group_change kind group))
 
 -- the same of a digest entry
 abbrev pub digest_resolution : Info → Option (List ℕ) → UpdateKind → DigestEntry → Result Change Cause
-digest_resolution info scope kind entry = unless (digest_cause info scope kind entry) (changes.Digest (digest_change kind entry))
+digest_resolution info scope kind entry = change_unless (digest_cause info scope kind entry) (changes.Digest (digest_change kind entry))

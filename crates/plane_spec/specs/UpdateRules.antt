@@ -455,10 +455,10 @@ entry_change info table kind entry =
     else change_by kind (record { name = name_of table entry; controller_metadata = entry.controller_metadata; action = given_action info (profile_in table) entry.action })
 
 -- a change, unless there is a cause against it
-abbrev pub unless : Option Cause → Change → Result Change Cause
-unless None change = Ok change
-unless (Some cause) change = Err cause
+abbrev pub change_unless : Option Cause → Change → Result Change Cause
+change_unless None change = Ok change
+change_unless (Some cause) change = Err cause
 
 -- an update of a table entry: the first rule of U2 to U9 that it breaks, or what it changes
 abbrev pub entry_resolution : Info → Option (List ℕ) → UpdateKind → TableEntry → Option Table → Result Change Cause
-entry_resolution info scope kind entry table = unless (entry_cause info scope kind entry table) (entry_change info table kind entry)
+entry_resolution info scope kind entry table = change_unless (entry_cause info scope kind entry table) (entry_change info table kind entry)

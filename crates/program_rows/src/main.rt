@@ -1,7 +1,8 @@
 //! Rows of device configurations: what is read of a program in which a text stands in the place of another.
 #![tactic(auto)]
 
-use bm_json::{JsonError, JsonFault, read_json};
+use bm_json::{JsonFault, read_json};
+use list_types::Refusal;
 use row_lines::{NoAnswer, say, tell};
 use std::alloc::Global;
 use std::rt::Files;
@@ -22,11 +23,11 @@ fn tell_program(alloc: Global, program: &str, told: &mut String) -> Result<(), N
             say(told, "ok");
             Ok(())
         }
-        Err(JsonError::Fault(fault)) => {
+        Err(Refusal::For(fault)) => {
             tell_fault(told, &fault);
             Ok(())
         }
-        Err(JsonError::NoMemory) => Err(NoAnswer),
+        Err(Refusal::NoMemory) => Err(NoAnswer),
     }
 }
 

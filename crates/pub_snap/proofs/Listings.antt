@@ -10,7 +10,7 @@ use Rattle.event_log.proofs.Prefixes.{prefix_self, prefix_trans}
 use Rattle.p4_types.specs.declared.events.Start.{Start}
 use Rattle.plane_spec.specs.Config.{Event}
 use Rattle.plane_spec.specs.Legal.{May, Legal}
-use Rattle.plane_spec.specs.Planes.{Control, opened, apply, applied}
+use Rattle.plane_spec.specs.Planes.{ControlState, opened, apply, applied}
 use Rattle.pub_snap.specs.declared.listed.Listed.{Listed}
 use Rattle.pub_snap.specs.declared.listed.Listed.TheVariants.{Open, Made}
 use Rattle.pub_snap.specs.Listing.{listed, MayList, listing, start_of, events_of, IsListing}
@@ -22,7 +22,7 @@ events_made [] = refl
 events_made (event ∷ events) = ap (λ es. event ∷ es) (events_made events)
 
 -- the state after events, from a state on
-pub after_made : (c : Control) (events : List Event) → after listed (Some c) (map (λ event. Made event) events) ≡ Some (applied c events)
+pub after_made : (c : ControlState) (events : List Event) → after listed (Some c) (map (λ event. Made event) events) ≡ Some (applied c events)
 after_made c [] = refl
 after_made c (event ∷ events) = after_made (apply c event) events
 
@@ -32,7 +32,7 @@ after_listing list h = ap (after listed None) h.is ∙ after_made (opened (start
 
 -- what may follow the events may follow the list
 pub may_follow : (list : List Listed) (event : Event) → IsListing list → May (applied (opened (start_of list)) (events_of list)) event → MayList (after listed None list) (Made event)
-may_follow list event h may = subst (λ (c : Option Control). MayList c (Made event)) (sym (after_listing list h)) may
+may_follow list event h may = subst (λ (c : Option ControlState). MayList c (Made event)) (sym (after_listing list h)) may
 
 pub length_made : (events : List Event) → length (map (λ event. Made event) events) ≡ length events
 length_made [] = refl
@@ -48,7 +48,7 @@ events_append (Open start ∷ xs) ys = events_append xs ys
 events_append (Made event ∷ xs) ys = ap (λ es. event ∷ es) (events_append xs ys)
 
 -- legal lists and their going on
-pub legal_more : (c : Control) (xs : List Event) (event : Event) → Legal c xs → May (applied c xs) event → Legal c (xs ++ event ∷ [])
+pub legal_more : (c : ControlState) (xs : List Event) (event : Event) → Legal c xs → May (applied c xs) event → Legal c (xs ++ event ∷ [])
 legal_more c [] event legal may = (may, tt)
 legal_more c (x ∷ xs) event legal may = (legal.0, legal_more (apply c x) xs event legal.1 may)
 
@@ -107,11 +107,11 @@ added k event h =
     ∙ ap (λ (es : List Event). record { list = k.list; start = start_of k.events; events = es }) (events_append k.events (Made event ∷ []))
 
 -- what is legal after legal events goes on with them
-pub legal_append : (c : Control) (xs ys : List Event) → Legal c xs → Legal (applied c xs) ys → Legal c (xs ++ ys)
+pub legal_append : (c : ControlState) (xs ys : List Event) → Legal c xs → Legal (applied c xs) ys → Legal c (xs ++ ys)
 legal_append c [] ys first second = second
 legal_append c (x ∷ xs) ys first second = (first.0, legal_append (apply c x) xs ys first.1 second)
 
 -- the same behind published events
-pub legal_pending : (c : Control) (events pending more : List Event) → Legal (applied c events) pending → Legal (applied c (events ++ pending)) more → Legal (applied c events) (pending ++ more)
+pub legal_pending : (c : ControlState) (events pending more : List Event) → Legal (applied c events) pending → Legal (applied c (events ++ pending)) more → Legal (applied c events) (pending ++ more)
 legal_pending c events pending more first second =
-    legal_append (applied c events) pending more first (subst (λ (d : Control). Legal d more) (fold-append apply c events pending) second)
+    legal_append (applied c events) pending more first (subst (λ (d : ControlState). Legal d more) (fold-append apply c events pending) second)

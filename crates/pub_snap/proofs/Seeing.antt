@@ -11,7 +11,7 @@ use Rattle.plane_image.specs.Image.{ImageVersions, steps_of}
 use Rattle.plane_image.specs.Taking.{can_take, taken, steps_taken}
 use Rattle.plane_spec.specs.Config.{Event}
 use Rattle.plane_spec.specs.Legal.{May, Legal}
-use Rattle.plane_spec.specs.Planes.{Control, opened, apply, applied}
+use Rattle.plane_spec.specs.Planes.{ControlState, opened, apply, applied}
 use Rattle.pub_snap.specs.Beginnings.{Beginning, with_events, Begins}
 use Rattle.pub_snap.specs.Snapshots.{Snapshot, Shift, IsAfter, AreShowable, IsKept, IsSeen, Feed, IsFeed, image_after, shifted, shifts, steps_in}
 use Rattle.pub_snap.proofs.Listings.{legal_more, begins_self, begins_trans, begins_more}
@@ -68,7 +68,7 @@ merges seat v other w x views h at apart there =
 capped : (n k most : ℕ) → min (min n most + k) most ≡ min (n + k) most
 capped n k most = omega arith
 
-taken_is : (c : Control) (event : Event) (b : Bool) → b ≡ true → (if b then apply c event else c) ≡ apply c event
+taken_is : (c : ControlState) (event : Event) (b : Bool) → b ≡ true → (if b then apply c event else c) ≡ apply c event
 taken_is c event true h = refl
 taken_is c event false h = absurd (cc h)
 
@@ -79,10 +79,10 @@ steps_is event false h = absurd (cc h)
 -- the image after an event more
 pub after_more : (image : ImageVersions) (told : Beginning) (event : Event) → IsAfter image told → May (applied (opened told.start) told.events) event → IsAfter (image_after image event) (with_events told (event ∷ []))
 after_more image told event after may =
-    let may' : May image.now event = subst (λ (c : Control). May c event) (sym after.now) may in
+    let may' : May image.now event = subst (λ (c : ControlState). May c event) (sym after.now) may in
     let can : can_take image.now event ≡ true = may_is_taken image.now event may' in
     record {
-      now = taken_is image.now event (can_take image.now event) can ∙ (ap (λ (c : Control). apply c event) after.now ∙ sym (fold-append apply (opened told.start) told.events (event ∷ [])));
+      now = taken_is image.now event (can_take image.now event) can ∙ (ap (λ (c : ControlState). apply c event) after.now ∙ sym (fold-append apply (opened told.start) told.events (event ∷ [])));
       settled = refl;
       steps = ap (λ (k : ℕ). min (image.steps + k) (2 ^ 64 - 1)) (steps_is event (can_take image.now event) can)
           ∙ (ap (λ (n : ℕ). min (n + steps_of event) (2 ^ 64 - 1)) after.steps ∙ (capped (sum_by steps_of told.events) (steps_of event) (2 ^ 64 - 1)
@@ -110,7 +110,7 @@ are_shown shown (event ∷ events) after legal =
     let told = with_events shown.told (event ∷ []) in
     let next : Snapshot = record { image = image_after shown.image event; told = told } in
     let rest : AreShown next events = are_shown next events (after_more shown.image shown.told event after legal.0)
-    (subst (λ (c : Control). Legal c events) (sym (fold-append apply (opened shown.told.start) shown.told.events (event ∷ []))) legal.1) in
+    (subst (λ (c : ControlState). Legal c events) (sym (fold-append apply (opened shown.told.start) shown.told.events (event ∷ []))) legal.1) in
     record { after = rest.after; told = rest.told ∙ more_events shown.told (event ∷ []) events }
 
 -- what is shown once these events are published, behind a beginning
@@ -154,7 +154,7 @@ pub one_less : (from told : Beginning) (events : List Event) (event : Event) (re
 one_less from told events event rest noted h = record {
   told_is = more_events told (event ∷ []) rest ∙ h.told_is;
   noted_is = append_assoc noted (shifts told (event ∷ [])) (shifts (with_events told (event ∷ [])) rest) ∙ h.noted_is;
-  legal = subst (λ (c : Control). Legal c rest) (sym (fold-append apply (opened told.start) told.events (event ∷ []))) h.legal.1;
+  legal = subst (λ (c : ControlState). Legal c rest) (sym (fold-append apply (opened told.start) told.events (event ∷ []))) h.legal.1;
   list = h.list;
   count = omega (arith, h.count, length-append told.events (event ∷ []));
 }

@@ -1,3 +1,4 @@
 pub mod Listing
 pub mod Beginnings
 pub mod Snapshots
+pub mod Room

@@ -3,19 +3,19 @@ use Rattle.std.specs.Prelude.{◌≡◌, ℕ, false, List, [], ◌∷◌, map, O
 use Rattle.p4_types.specs.declared.events.Start.{Start}
 use Rattle.plane_spec.specs.Config.{Event}
 use Rattle.plane_spec.specs.Legal.{May, Legal}
-use Rattle.plane_spec.specs.Planes.{Control, opened, apply}
+use Rattle.plane_spec.specs.Planes.{ControlState, opened, apply}
 use Rattle.pub_snap.specs.declared.listed.Listed.{Listed}
 use Rattle.pub_snap.specs.declared.listed.Listed.TheVariants.{Open, Made}
 
 -- the control state after one more of a list; before the first there is none
-abbrev pub listed : Option Control → Listed → Option Control
+abbrev pub listed : Option ControlState → Listed → Option ControlState
 listed None (Open start) = Some (opened start)
 listed None (Made event) = None
 listed (Some c) (Open start) = Some c
 listed (Some c) (Made event) = Some (apply c event)
 
 -- the start comes first and once, and then events that may follow
-abbrev pub MayList : Option Control → Listed → Type 0
+abbrev pub MayList : Option ControlState → Listed → Type 0
 MayList None (Open start) = Unit {0}
 MayList None (Made event) = ⊥
 MayList (Some c) (Open start) = ⊥

@@ -7,7 +7,7 @@ use Rattle.plane_image.specs.Image.{ImageVersions, steps_of}
 use Rattle.plane_image.specs.Taking.{taken, steps_taken}
 use Rattle.plane_spec.specs.Config.{Event}
 use Rattle.plane_spec.specs.Legal.{Legal}
-use Rattle.plane_spec.specs.Planes.{Control, opened, applied}
+use Rattle.plane_spec.specs.Planes.{ControlState, opened, applied}
 use Rattle.pub_snap.specs.Beginnings.{Beginning, Begins, with_events}
 
 -- an image that is shown, and what it is after

@@ -5,6 +5,7 @@
 mod listed;
 mod opening;
 mod publisher;
+mod room;
 mod ruling;
 mod shown;
 mod told;
@@ -12,5 +13,6 @@ mod viewer;
 
 pub use opening::open;
 pub use publisher::Publisher;
+pub use room::NoRoom;
 pub use told::Told;
 pub use viewer::{View, Viewer};

@@ -18,13 +18,13 @@ pub struct Led {
 
 impl Model for Led {
     ghost use Rattle.std.specs.Prelude.{Option, None};
-    ghost use Rattle.plane_spec.specs.Planes.{Control};
+    ghost use Rattle.plane_spec.specs.Planes.{ControlState};
     ghost use Rattle.bm_expr.specs.TreeCode.{number_code, truth_code};
     ghost use Rattle.std.specs.Coded.{codes};
 
     ghost coded = { Prim.hlevel (codes, number_code, truth_code) };
 
-    ghost Value = { Option Control };
+    ghost Value = { Option ControlState };
 
     ghost view = { λ _. None };
 }

@@ -4,13 +4,15 @@ ghost use Rattle.left_right.specs.Sides.{view};
 ghost use Rattle.plane_spec.specs.Legal.{May, Legal};
 ghost use Rattle.plane_spec.specs.Planes.{opened, applied};
 ghost use Rattle.pub_snap.specs.Beginnings.{with_events};
+ghost use Rattle.pub_snap.specs.Room.{IsNotTaken};
 ghost use Rattle.pub_snap.specs.Snapshots.{AreShowable, shifted, shifts, steps_in, all_of};
 
+use crate::room::NoRoom;
 use crate::ruling::{Sees, ShownWriter};
 use crate::shown::Shifting;
 use crate::told::{Log, Told};
 use core::mem::replace_with;
-use list_types::{List, NoMemory};
+use list_types::{List, Refusal};
 use p4_types::events::Event;
 use plane_image::Image;
 use plane_state::Config;
@@ -172,37 +174,38 @@ fn list_all<R: Wait>(
 fn append(
     pending: &mut VecDeque<Event<Config>>,
     events: List<Event<Config>>,
-) -> Result<(), (List<Event<Config>>, NoMemory)>
+) -> Result<(), List<Event<Config>>>
     ensures added { OnOk result (pending.new.items ≡ pending.old.items ++ events) }
     ensures kept { OnErr result (pending.new.items ≡ pending.old.items) }
-    ensures given_back { IfErr result (λ refused. refused.0 ≡ events) }
+    ensures given_back { IfErr result (λ given_back. given_back ≡ events) }
 {
     let mut events = VecDeque::from_vec(events.into_vec());
     match pending.append(&mut events) {
         Ok(()) => Ok(()),
-        Err(_) => Err((List::from_vec(events.into_vec()), NoMemory)),
+        Err(_) => Err(List::from_vec(events.into_vec())),
     }
 }
 
 impl<R: Wait + Drop> Publisher<R> {
-    /// Adds events to what is pending: all of them, or none where there is no memory, or no room in the list, which has room
-    /// for 2^64 - 2 events.
+    /// Adds events to what is pending: all of them, or none where there is no memory or the list has no room for them. They
+    /// are given back then.
     pub fn push(
         &mut self,
         events: List<Event<Config>>,
-    ) -> Result<(), (List<Event<Config>>, NoMemory)>
+    ) -> Result<(), (List<Event<Config>>, Refusal<NoRoom>)>
         requires legal { Legal (applied (opened self.old.told.start) (all_of self.old)) events }
         ensures told { self.new.told ≡ self.old.told }
         ensures added { OnOk result (self.new.pending ≡ self.old.pending ++ events) }
         ensures kept { OnErr result (self.new.pending ≡ self.old.pending) }
         ensures given_back { IfErr result (λ refused. refused.0 ≡ events) }
+        ensures refused { IfErr result (λ refused. IsNotTaken refused.1 self.old events) }
     {
         let room = u64::MAX - 1 - self.told.len() - self.pending.len() as u64;
         if events.len() as u64 > room {
-            return Err((events, NoMemory));
+            return Err((events, Refusal::For(NoRoom)));
         }
-        if let Err(refused) = append(&mut self.pending, events) {
-            return Err(refused);
+        if let Err(events) = append(&mut self.pending, events) {
+            return Err((events, Refusal::NoMemory));
         }
         Ok(())
     }

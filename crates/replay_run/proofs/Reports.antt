@@ -27,7 +27,7 @@ use Rattle.p4_types.specs.declared.tape.TapeRecord.{TapeRecord}
 use Rattle.plane_spec.specs.Config.{Event}
 use Rattle.plane_spec.specs.Entries.{slot_limit}
 use Rattle.plane_spec.specs.Legal.{Legal}
-use Rattle.plane_spec.specs.Planes.{Control, Plane, apply, applied, opened}
+use Rattle.plane_spec.specs.Planes.{ControlState, Plane, apply, applied, opened}
 use Rattle.pub_snap.specs.Beginnings.{Beginning}
 use Rattle.replay_run.proofs.Sums.{added_by_all, records_by, sums_by}
 use Rattle.replay_run.specs.Ends.{figures_at}
@@ -80,7 +80,7 @@ all_added start tape journal last callers workers figure h =
 
 -- Close leaves the planes
 still_active : (start : Start) (journal : List Made) → (final start journal).active ≡ (applied (opened start) (journal_events (opened start) journal)).active
-still_active start journal = ap (λ (c : Control). c.active) (fold-append apply (opened start) (journal_events (opened start) journal) (events.Close ∷ []))
+still_active start journal = ap (λ (c : ControlState). c.active) (fold-append apply (opened start) (journal_events (opened start) journal) (events.Close ∷ []))
 
 entries_in : (signed : List Signed) → map (λ (s : Signed). s.entry) signed ≡ map (λ (m : Made). m.entry) (journal_of signed)
 entries_in [] = refl
@@ -114,7 +114,7 @@ gathered start tape signed told callers workers calls items each calls_are items
       carried = subst (λ (f : ℕ → List WorkerItem). OfEach (HasCarried told f (journal_of signed)) 16 workers) items_are carried;
     }
 
-pub reported : (start : Start) (tape : List TapeRecord) (signed : List Signed) (last : Beginning) (callers workers : List Work) (control : Control) (rest seat : Account) (totals : List ℕ) (report : Report)
+pub reported : (start : Start) (tape : List TapeRecord) (signed : List Signed) (last : Beginning) (callers workers : List Work) (control : ControlState) (rest seat : Account) (totals : List ℕ) (report : Report)
     → AreGathered start tape (journal_of signed) last callers workers → OfEach (HasRead start signed) 32 callers → SeeAll (opened start) signed → length tape ≤ 1000000 → control ≡ applied (opened start) (journal_events (opened start) (journal_of signed))
     → rest.added ≡ [] → seat ≡ fold accounts.joined (fold accounts.joined rest (map (λ (w : Work). w.seat) workers)) (map (λ (w : Work). w.seat) callers)
     → AreTotals totals slot_limit seat.added → NoneAbove seat.noted seat.added
@@ -139,7 +139,7 @@ reported start tape signed last callers workers control rest seat totals report 
     let words : (slot : ℕ) → slot < slot_limit → figures_at totals slot ≡ in_words (figures_of packets) slot = λ slot lt.
     are_totals slot lt ∙ ap (λ (x : ℕ × ℕ). (x.0 % 2 ^ 64, x.1 % 2 ^ 64)) (added slot) in
     let lines = totals_are_counts start tape journal packets (figures_at totals) run within words in
-    let active : control.active ≡ (final start journal).active = ap (λ (c : Control). c.active) control_is ∙ sym (still_active start journal) in
+    let active : control.active ≡ (final start journal).active = ap (λ (c : ControlState). c.active) control_is ∙ sym (still_active start journal) in
     record {
       journal = journal;
       records = packets;

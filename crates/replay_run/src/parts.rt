@@ -2,13 +2,12 @@
 ghost use Rattle.std.specs.Prelude.{IfOk};
 ghost use Rattle.replay_run.specs.Opening.{AreParts};
 
-use crate::reporting::SLOTS;
 use counter_bank::{Bank, Seat};
 use ctl_core::Control;
 use ctl_lock::Signed;
 use lane_table::{JournalSeat, LaneSeat, LaneTable, open_lanes};
 use list_types::NoMemory;
-use p4_types::events::Start;
+use p4_types::events::{SLOT_LIMIT, Start};
 use pub_snap::{Publisher, Viewer};
 use std::alloc::Global;
 use std::sync::Wait;
@@ -36,7 +35,7 @@ pub(crate) fn open_parts<R: Wait + Drop>(
 ) -> Result<(Publisher<R>, Parts), NoMemory>
     ensures parts { IfOk result (λ r. AreParts start.now r.0 r.1) }
 {
-    let (bank, rest) = counter_bank::open(alloc, SLOTS)?;
+    let (bank, rest) = counter_bank::open(alloc, SLOT_LIMIT)?;
     let (table, journal, lanes) = open_lanes(alloc)?;
     let (publisher, viewers) = pub_snap::open(alloc, rt, start, LANES)?;
     let Ok(control) = Control::open(alloc, start) else {

@@ -18,12 +18,10 @@ use counter_bank::Seat;
 use ctl_lock::{ClosedDesk, Naming, Signed};
 use lane_work::LaneWork;
 use list_types::{List, NoMemory};
+use p4_types::events::SLOT_LIMIT;
 use p4_types::journal::{Entry, Report};
 use slot_totals::{cell_lines, count_lines};
 use std::alloc::Global;
-
-/// How many slots the counters of a run have: as many as can be drawn.
-pub const SLOTS: u32 = 1_048_576;
 
 // The entries of calls that were made.
 fn entries(alloc: Global, journal: Vec<Signed>) -> Result<List<Entry>, NoMemory>
@@ -60,7 +58,7 @@ pub fn report<J: Naming>(
     let mut records = Vec::new(alloc);
     join_works(alloc, &bank, &mut seat, &mut records, workers)?;
     join_works(alloc, &bank, &mut seat, &mut records, callers)?;
-    let counted = Counted::close(bank, seat, SLOTS);
+    let counted = Counted::close(bank, seat, SLOT_LIMIT);
     let plane = control.image().active();
     Ok(Report {
         journal: entries(alloc, journal)?,

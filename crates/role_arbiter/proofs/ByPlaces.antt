@@ -12,7 +12,8 @@ use Rattle.p4_types.specs.declared.messages.Uint128.{Uint128}
 use Rattle.role_arbiter.specs.declared.sessions.NamedRole.{NamedRole}
 use Rattle.role_arbiter.specs.declared.sessions.Session.{Session}
 use Rattle.role_arbiter.specs.Arbitration.{cause, has_other_role, id_is_taken, received, greater}
-use Rattle.role_arbiter.specs.Configuration.{role_of, config_of}
+use Rattle.p4v1_read.specs.RoleConfigs.{role_config_of}
+use Rattle.role_arbiter.specs.RoleOf.{role_of}
 use Rattle.role_arbiter.specs.Laws.{IsRising, IsSound}
 use Rattle.role_arbiter.specs.Placing.{place_of, place_of_role, placed_at, has_role_beside, lacks, cause_at}
 use Rattle.role_arbiter.specs.State.{RolesState, session_in, greatest_in}
@@ -70,7 +71,7 @@ pub cause_placed : (state : RolesState) (caller : ℕ) (update : MasterArbitrati
     → cause state caller update ≡ cause_at state (place_of state.sessions caller) (place_of_role state.named (role_of update.role)) caller update
 cause_placed state caller update sound =
     let role = role_of update.role in
-    let unread = is_none (config_of update.role) in
+    let unread = is_none (role_config_of update.role) in
     let taken = id_is_taken state.sessions caller role update.election_id in
     ap₂ (λ (b c : Bool). by_tests b unread taken c)
     (other_role state.sessions caller role sound.rising ∙ ap (has_role_beside role) (sym (found_at (of_caller caller) state.sessions)))

@@ -1,4 +1,3 @@
-pub mod PackedIds
 pub mod Places
 pub mod ByPlaces
 pub mod Entering

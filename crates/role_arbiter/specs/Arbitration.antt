@@ -7,7 +7,8 @@ use Rattle.p4_types.specs.declared.messages.MasterArbitrationUpdate.{MasterArbit
 use Rattle.p4_types.specs.declared.messages.Uint128.{Uint128}
 use Rattle.role_arbiter.specs.declared.sessions.Session.{Session}
 use Rattle.role_arbiter.specs.declared.sessions.NamedRole.{NamedRole}
-use Rattle.role_arbiter.specs.Configuration.{role_of, config_of}
+use Rattle.p4v1_read.specs.RoleConfigs.{role_config_of}
+use Rattle.role_arbiter.specs.RoleOf.{role_of}
 use Rattle.role_arbiter.specs.Election.{election_number}
 use Rattle.role_arbiter.specs.State.{RolesState, bears}
 
@@ -39,14 +40,14 @@ lacks_role named role = not (is_named named role) && nat_le 64 (length named)
 abbrev pub cause : RolesState → ℕ → MasterArbitrationUpdate → Option ArbitrationRule
 cause state caller update =
     if has_other_role state.sessions caller (role_of update.role) then Some rules.A2
-    else if is_none (config_of update.role) then Some rules.A3
+    else if is_none (role_config_of update.role) then Some rules.A3
     else if id_is_taken state.sessions caller (role_of update.role) update.election_id then Some rules.A4
     else if lacks_session state.sessions caller || lacks_role state.named (role_of update.role) then Some rules.A5
     else None
 
 -- the session that an update asks for
 abbrev pub asked : ℕ → MasterArbitrationUpdate → Session
-asked caller update = record { caller = caller; role = role_of update.role; election_id = update.election_id; config = unwrap_or (config_of update.role) None }
+asked caller update = record { caller = caller; role = role_of update.role; election_id = update.election_id; config = unwrap_or (role_config_of update.role) None }
 
 -- the session in the place of its caller's
 abbrev pub replaced : List Session → Session → List Session

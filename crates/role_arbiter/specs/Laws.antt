@@ -7,7 +7,7 @@ use Rattle.p4_types.specs.declared.messages.Uint128.{Uint128}
 use Rattle.role_arbiter.specs.declared.sessions.Session.{Session}
 use Rattle.role_arbiter.specs.declared.sessions.NamedRole.{NamedRole}
 use Rattle.role_arbiter.specs.Arbitration.{cause, asked, arbitrated, left, received}
-use Rattle.role_arbiter.specs.Configuration.{config_of}
+use Rattle.p4v1_read.specs.RoleConfigs.{role_config_of}
 use Rattle.role_arbiter.specs.Election.{election_number}
 use Rattle.role_arbiter.specs.State.{RolesState, no_roles, greatest_in, bears, primary_of, status_of}
 use Rattle.role_arbiter.specs.Telling.{is_caller, told_at_arbitration, told_at_leave}
@@ -107,4 +107,4 @@ pub record WorkedRun : Type 0 where
   pub again_told : told_at_arbitration without_first (asked 1 (plain_update 6)) ≡ 1 ∷ []
   pub again_status : status_of with_second 1 ≡ Some codes.Ok
   -- one table's id, packed
-  pub ids : config_of (Some (record { id = 7; config = Some (record { type_url = text "p4switch/ids"; value = 0x82 ∷ 0x80 ∷ 0x80 ∷ 0x10 ∷ [] }) })) ≡ Some (Some (33554434 ∷ []))
+  pub ids : role_config_of (Some (record { id = 7; config = Some (record { type_url = text "p4switch/ids"; value = 0x82 ∷ 0x80 ∷ 0x80 ∷ 0x10 ∷ [] }) })) ≡ Some (Some (33554434 ∷ []))

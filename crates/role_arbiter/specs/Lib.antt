@@ -1,6 +1,6 @@
 pub mod Election
 pub mod State
-pub mod Configuration
+pub mod RoleOf
 pub mod Arbitration
 pub mod Placing
 pub mod Telling

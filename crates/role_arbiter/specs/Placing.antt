@@ -8,7 +8,8 @@ use Rattle.role_arbiter.specs.declared.sessions.NamedRole.{NamedRole}
 use Rattle.role_arbiter.specs.declared.sessions.Placed.{Placed}
 use Rattle.role_arbiter.specs.declared.sessions.Session.{Session}
 use Rattle.role_arbiter.specs.Arbitration.{id_is_taken}
-use Rattle.role_arbiter.specs.Configuration.{role_of, config_of}
+use Rattle.p4v1_read.specs.RoleConfigs.{role_config_of}
+use Rattle.role_arbiter.specs.RoleOf.{role_of}
 use Rattle.role_arbiter.specs.State.{RolesState}
 
 -- where a caller's session stands among the live ones, if it has one
@@ -42,7 +43,7 @@ lacks limit place xs = is_none place && nat_le limit (length xs)
 abbrev pub cause_at : RolesState → Option ℕ → Option ℕ → ℕ → MasterArbitrationUpdate → Option ArbitrationRule
 cause_at state place known caller update =
     if has_role_beside (role_of update.role) (placed_at place state.sessions) then Some rules.A2
-    else if is_none (config_of update.role) then Some rules.A3
+    else if is_none (role_config_of update.role) then Some rules.A3
     else if id_is_taken state.sessions caller (role_of update.role) update.election_id then Some rules.A4
     else if lacks 32 place state.sessions || lacks 64 known state.named then Some rules.A5
     else None

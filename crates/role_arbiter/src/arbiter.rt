@@ -3,20 +3,21 @@ ghost use Rattle.std.specs.Prelude.{◌≡◌, false, None, Some, IfOk, IfErr, O
 ghost use Rattle.std.specs.Option.{option_map, option_copied};
 ghost use Rattle.role_arbiter.specs.State.{RolesState, no_roles, session_in, greatest_in, primary_of, status_by, status_of};
 ghost use Rattle.role_arbiter.specs.Arbitration.{cause, asked, arbitrated, left, is_refused, inserted};
-ghost use Rattle.role_arbiter.specs.Configuration.{config_of};
+ghost use Rattle.p4v1_read.specs.RoleConfigs.{role_config_of};
 ghost use Rattle.role_arbiter.specs.Laws.{IsSound};
 ghost use Rattle.role_arbiter.specs.Placing.{IsPlaced, placed_at, cause_at};
+ghost use Rattle.role_arbiter.specs.RoleOf.{role_of};
 ghost use Rattle.role_arbiter.specs.Undo.{session_back, named_back};
 ghost use Rattle.role_arbiter.specs.Telling.{told_at_arbitration, told_at_leave};
 
 use crate::changes::{self, ROLE_LIMIT};
-use crate::configuration::{config_of, role_of};
 use crate::numbers::{Lanes, SESSION_LIMIT};
 use crate::sessions::{self, NamedRole, Placed, Session};
 use list_types::NoMemory;
 use p4_types::code::{ArbitrationRule, Code};
 use p4_types::ids::Ids;
-use p4_types::messages::{MasterArbitrationUpdate, Uint128};
+use p4_types::messages::{MasterArbitrationUpdate, Role, Uint128};
+use p4v1_read::role_config_of;
 use std::alloc::Global;
 use std::marker::Model;
 
@@ -140,14 +141,14 @@ impl Roles {
         update: &MasterArbitrationUpdate,
     ) -> Result<Option<Ids>, ArbitrationRule>
         ensures accepted { OnOk result (cause_at self.now place known caller update.now ≡ None) }
-        ensures config { IfOk result (λ config. config ≡ unwrap_or (config_of update.now.role) None) }
+        ensures config { IfOk result (λ config. config ≡ unwrap_or (role_config_of update.now.role) None) }
         ensures refused { IfErr result (λ refused. cause_at self.now place known caller update.now ≡ Some refused) }
     {
         let role = role_of(&update.role);
         if sessions::has_role_beside(sessions::session_at(&self.sessions, place), role) {
             return Err(ArbitrationRule::A2);
         }
-        let Ok(config) = config_of(&update.role) else {
+        let Ok(config) = role_config_of(&update.role) else {
             return Err(ArbitrationRule::A3);
         };
         if changes::id_is_taken(&self.sessions, caller, role, update.election_id) {
@@ -306,5 +307,14 @@ impl Roles {
         ensures { self.new ≡ record self.old { sessions = inserted self.old.sessions session } }
     {
         changes::insert(&mut self.sessions, session);
+    }
+}
+
+fn role_of(role: &Option<Role>) -> u64
+    ensures { result ≡ role_of role.now }
+{
+    match role {
+        None => 0,
+        Some(role) => role.id,
     }
 }

@@ -3,7 +3,6 @@
 
 mod arbiter;
 mod changes;
-mod configuration;
 pub mod laws;
 mod numbers;
 mod sessions;

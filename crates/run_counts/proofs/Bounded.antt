@@ -4,7 +4,7 @@ use Rattle.p4_types.specs.declared.events.Start.{Start}
 use Rattle.p4_types.specs.declared.tape.TapeRecord.{TapeRecord}
 use Rattle.p4_types.specs.declared.tape.TapeRecord.TheVariants.{Call, Packet, Leave, Meet}
 use Rattle.p4_types.specs.declared.tape.Who.TheVariants.{Controller, Worker}
-use Rattle.plane_spec.specs.Planes.{Control, opened, applied}
+use Rattle.plane_spec.specs.Planes.{ControlState, opened, applied}
 use Rattle.run_counts.proofs.Rising.{AreNoMore, all_rise, counted_alike, counted_rises, known_below, no_more_self, no_more_trans}
 use Rattle.run_counts.specs.Reading.{AreBounded, LockstepIsBounded, Moment, SeesBetween, has_read, known_behind, moments_on}
 use Rattle.run_spec.proofs.Following.{on_by}
@@ -62,7 +62,7 @@ call_bounded start lane high low g moment later (Some arrival) false (first ∷ 
     (rest low (no_more_trans low g (counted g first) below (counted_rises g first)))
 
 -- a call of the tape, whose lane's calls behind it are bounded
-next_bounded : (start : Start) (lane other : ℕ) (call : LaneCall) (high low g : Figures) (c : Control) (made : Made) (journal : List Made) (records : List Carried)
+next_bounded : (start : Start) (lane other : ℕ) (call : LaneCall) (high low g : Figures) (c : ControlState) (made : Made) (journal : List Made) (records : List Carried)
     → IsNext start g other call made records → AreNoMore low g → AreNoMore (fold counted g records) high
     → ((now : Figures) → AreNoMore now (figures_out (packet_out start made) g records)
     → AreNoMore (fold counted (figures_out (packet_out start made) g records) (carried_after (packet_out start made) records)) high
@@ -75,7 +75,7 @@ next_bounded start lane other call high low g c made journal records next below 
     call_bounded start lane high low g moment (moments_on lane (applied c (own_events c made)) journal) (packet_out start made) (lane == made.entry.lane) records refl refl next.figures_are next.followed below seen
     (λ now known. rest now known later)
 
-bounded : (start : Start) (lane : ℕ) (high : Figures) (c : Control) (n : ℕ) (low g : Figures) (tape : List TapeRecord) (journal : List Made) (records : List Carried)
+bounded : (start : Start) (lane : ℕ) (high : Figures) (c : ControlState) (n : ℕ) (low g : Figures) (tape : List TapeRecord) (journal : List Made) (records : List Carried)
     → Lockstep start n g tape journal records → AreNoMore low g → AreNoMore (fold counted g records) high
     → AreBounded start high low (moments_on lane c journal) (carried_on (Controller lane) records)
 bounded start lane high c n low g [] journal records h below above =

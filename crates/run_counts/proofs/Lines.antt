@@ -14,7 +14,7 @@ use Rattle.plane_spec.proofs.SoundPlanes.{planes_stay_sound}
 use Rattle.plane_spec.specs.Config.{cells_in}
 use Rattle.plane_spec.specs.Entries.{slot_limit}
 use Rattle.plane_spec.specs.PlaneLaws.{IsSoundControl, numbers_from, slots_of}
-use Rattle.plane_spec.specs.Planes.{Control, Plane}
+use Rattle.plane_spec.specs.Planes.{ControlState, Plane}
 use Rattle.run_counts.proofs.Lists.{each_front, each_back}
 use Rattle.run_counts.proofs.Words.{words_are_exact}
 use Rattle.run_counts.specs.Totals.{TotalsAreCounts}
@@ -78,14 +78,14 @@ plane_alike g h (Some plane) same =
     )
 
 -- the slots of the active plane are among those that the switch has
-slots_within : (c : Control) → IsSoundControl c → AllByRecursion (λ slot. slot < slot_limit) (slots_of c.active)
+slots_within : (c : ControlState) → IsSoundControl c → AllByRecursion (λ slot. slot < slot_limit) (slots_of c.active)
 slots_within c sound =
     each_front (λ slot. slot < slot_limit) (slots_of c.active) (slots_of c.staged)
     (All-weaken (λ slot. slot < c.next_slot) (λ slot. slot < slot_limit) (λ slot below. omega (arith, sound.slot_limit)) _ (recursion_from_All (λ slot. slot < c.next_slot) _ sound.slots))
 
 pub totals_are_counts : TotalsAreCounts
 totals_are_counts start tape journal records totals run within are_words =
-    let c : Control = final start journal in
+    let c : ControlState = final start journal in
     let agree : (slot : ℕ) → slot < slot_limit → Agree totals (figures_of records) slot = λ slot below. are_words slot below ∙ words_are_exact records slot within in
     let slots = slots_within c (planes_stay_sound start (published start journal) run.legal) in
     let alike = plane_alike totals (figures_of records) c.active (All-weaken (λ slot. slot < slot_limit) (Agree totals (figures_of records)) agree (slots_of c.active) slots) in

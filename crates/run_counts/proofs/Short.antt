@@ -8,7 +8,7 @@ use Rattle.p4_types.specs.declared.tape.TapeRecord.TheVariants.{Call, Packet, Le
 use Rattle.p4_types.specs.declared.tape.Who.{Who}
 use Rattle.p4_types.specs.declared.tape.Who.TheVariants.{Controller, Worker}
 use Rattle.plane_spec.proofs.Lists.{All-filter}
-use Rattle.plane_spec.specs.Planes.{Control, opened, applied}
+use Rattle.plane_spec.specs.Planes.{ControlState, opened, applied}
 use Rattle.run_counts.proofs.Lanes.{is_who_self}
 use Rattle.run_counts.proofs.Lists.{each_filter_map, each_of_map}
 use Rattle.run_counts.specs.Packets.{IsShort, WorkersPacketsAreShort, ControllersPacketsAreShort, PacketsAreShort}
@@ -40,12 +40,12 @@ workers_packets_are_short tape lane h = each_filter_map IsRecord IsShort (packet
 abbrev HasShort : Entry → Type 0
 HasShort entry = IfSome entry.reply.packet (λ packet. length packet ≤ 9216)
 
-entry_short : (c : Control) (n : ℕ) (made : Made) (b : Bool)
+entry_short : (c : ControlState) (n : ℕ) (made : Made) (b : Bool)
     → HasShort (if b then refused_for_memory n made.entry.lane made.entry.call else answered c made.figures n made.entry.lane made.entry.call made.call)
 entry_short c n made true = tt
 entry_short c n made false = (answer_sound c made.figures made.entry.lane made.entry.call made.call).short_packet
 
-entries_short : (c : Control) (n : ℕ) (journal : List Made) → History c n journal → AllByRecursion (λ made. HasShort made.entry) journal
+entries_short : (c : ControlState) (n : ℕ) (journal : List Made) → History c n journal → AllByRecursion (λ made. HasShort made.entry) journal
 entries_short c n [] h = tt
 entries_short c n (made ∷ journal) h = (
   subst HasShort (sym h.0) (entry_short c n made (is_refused_for_memory made)),

@@ -5,7 +5,7 @@ use Rattle.p4_types.specs.declared.calls.Call.TheVariants as calls
 use Rattle.p4_types.specs.declared.events.Start.{Start}
 use Rattle.p4_types.specs.declared.tape.TapeRecord.{TapeRecord}
 use Rattle.p4_types.specs.declared.tape.Who.TheVariants.{Controller}
-use Rattle.plane_spec.specs.Planes.{Control, opened, applied}
+use Rattle.plane_spec.specs.Planes.{ControlState, opened, applied}
 use Rattle.run_spec.specs.Report.{IsLockstepReport, carried_after, figures_out}
 use Rattle.switch_spec.specs.Answer.{called}
 use Rattle.switch_spec.specs.Carrying.{carried_on, packet_out}
@@ -24,16 +24,16 @@ has_read made = if is_refused_for_memory made then false else is_read (called ma
 
 -- a call beside the state that the calls before it left
 pub record Moment : Type 0 where
-  pub control : Control
+  pub control : ControlState
   pub made : Made
 
 -- the calls of a journal, each beside its state
-abbrev pub moments : Control → List Made → List Moment
+abbrev pub moments : ControlState → List Made → List Moment
 moments c [] = []
 moments c (made ∷ later) = (record { control = c; made = made }) ∷ moments (applied c (own_events c made)) later
 
 -- those of one lane
-abbrev pub moments_on : ℕ → Control → List Made → List Moment
+abbrev pub moments_on : ℕ → ControlState → List Made → List Moment
 moments_on lane c journal = filter (λ moment. lane == moment.made.entry.lane) (moments c journal)
 
 -- no more packets, and no more bytes

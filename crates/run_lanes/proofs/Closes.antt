@@ -22,7 +22,7 @@ use Rattle.p4_types.specs.declared.tape.Who.{Who}
 use Rattle.p4_types.specs.declared.tape.Who.TheVariants.{Controller, Worker}
 use Rattle.plane_spec.specs.Config.{Event}
 use Rattle.plane_spec.specs.Legal.{May, Legal}
-use Rattle.plane_spec.specs.Planes.{Control, opened, apply, applied}
+use Rattle.plane_spec.specs.Planes.{ControlState, opened, apply, applied}
 use Rattle.pub_snap.proofs.Listings.{begins_self}
 use Rattle.pub_snap.specs.Beginnings.{Beginning, Begins}
 use Rattle.run_lanes.specs.Gathered.{HasCalled, HasCarried, HasRead, IsThrough}
@@ -34,11 +34,11 @@ use Rattle.switch_spec.specs.declared.calls.WorkerItem.{WorkerItem}
 
 -- ---- Nothing may follow Close
 
-legal_behind : (c : Control) (xs ys : List Event) → Legal c (xs ++ ys) → Legal (applied c xs) ys
+legal_behind : (c : ControlState) (xs ys : List Event) → Legal c (xs ++ ys) → Legal (applied c xs) ys
 legal_behind c [] ys h = h
 legal_behind c (x ∷ xs) ys h = legal_behind (apply c x) xs ys h.1
 
-may_not : (c : Control) (event : Event) → c.closed ≡ true → May c event → ⊥
+may_not : (c : ControlState) (event : Event) → c.closed ≡ true → May c event → ⊥
 may_not c (events.Arbitrate by config) closed may = (let a = may.0 in absurd (cc (a, closed)))
 may_not c (events.Leave caller call) closed may = (let a = may.0 in absurd (cc (a, closed)))
 may_not c (events.Change by change) closed may = (let a = may.0 in absurd (cc (a, closed)))
@@ -47,12 +47,12 @@ may_not c (events.Save by config) closed may = (let a = may.0 in absurd (cc (a, 
 may_not c (events.Commit by content) closed may = (let a = may.0 in absurd (cc (a, closed)))
 may_not c events.Close closed may = absurd (cc (may, closed))
 
-none_behind : (c : Control) (rest : List Event) → c.closed ≡ true → Legal c rest → rest ≡ []
+none_behind : (c : ControlState) (rest : List Event) → c.closed ≡ true → Legal c rest → rest ≡ []
 none_behind c [] closed h = refl
 none_behind c (event ∷ rest) closed h = absurd (may_not c event closed h.0)
 
-closed_at : (c : Control) (xs : List Event) → (applied c (xs ++ events.Close ∷ [])).closed ≡ true
-closed_at c xs = ap (λ (d : Control). d.closed) (fold-append apply c xs (events.Close ∷ []))
+closed_at : (c : ControlState) (xs : List Event) → (applied c (xs ++ events.Close ∷ [])).closed ≡ true
+closed_at c xs = ap (λ (d : ControlState). d.closed) (fold-append apply c xs (events.Close ∷ []))
 
 -- what was told of a list that begins with all to its Close is that list
 pub told_all : (start : Start) (journal : List Made) (last told : Beginning) → last.start ≡ start → last.events ≡ published start journal → Legal (opened told.start) told.events → Begins last told → Begins told last

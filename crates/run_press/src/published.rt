@@ -75,22 +75,22 @@ impl Press for Published {
 
     ghost opening = { λ p. opened p.start };
 
-    fn push(&mut self, events: List<Event<Config>>) -> Result<(), (List<Event<Config>>, NoMemory)> {
+    fn push(&mut self, events: List<Event<Config>>) -> Result<(), List<Event<Config>>> {
         let Ok(mut kinds) = kinds_of(self.alloc, events.as_slice()) else {
-            return Err((events, NoMemory));
+            return Err(events);
         };
         if self.kinds.reserve(kinds.len()).is_err() {
-            return Err((events, NoMemory));
+            return Err(events);
         }
         let Some(told) = with_all(&self.told, &self.log, events.as_slice()) else {
-            return Err((events, NoMemory));
+            return Err(events);
         };
         match self.kinds.append(&mut kinds) {
             Ok(()) => {
                 self.told = told;
                 Ok(())
             }
-            Err(_) => Err((events, NoMemory)),
+            Err(_) => Err(events),
         }
     }
 }

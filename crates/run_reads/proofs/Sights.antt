@@ -8,19 +8,19 @@ use Rattle.ctl_lock.specs.Locked.{SeeAll}
 use Rattle.ctl_lock.specs.declared.signed.Signed.{Signed}
 use Rattle.lane_table.specs.Lanes.{of_lane}
 use Rattle.plane_spec.proofs.Lists.{All-filter}
-use Rattle.plane_spec.specs.Planes.{Control, applied}
+use Rattle.plane_spec.specs.Planes.{ControlState, applied}
 use Rattle.run_counts.specs.Reading.{Moment, moments, moments_on}
 use Rattle.run_reads.proofs.Turns.{HasSeenAll, Sighted, as_moment}
 use Rattle.switch_spec.specs.Carrying.{made_on}
 use Rattle.switch_spec.specs.History.{Made, own_events}
 
 -- the calls of a journal, each beside its state
-abbrev pub sighted_in : Control → List Signed → List Sighted
+abbrev pub sighted_in : ControlState → List Signed → List Sighted
 sighted_in c [] = []
 sighted_in c (signed ∷ later) = (record { control = c; signed = signed }) ∷ sighted_in (applied c (own_events c (made_of signed))) later
 
 -- those of one lane
-abbrev pub sighted_on : ℕ → Control → List Signed → List Sighted
+abbrev pub sighted_on : ℕ → ControlState → List Signed → List Sighted
 sighted_on lane c list = filter (λ s. lane == s.signed.entry.lane) (sighted_in c list)
 
 -- ---- Lists
@@ -39,15 +39,15 @@ nothing_of f (x ∷ xs) is = absurd (cc)
 
 -- ---- The calls are the journal's
 
-all_moments : (c : Control) (list : List Signed) → moments c (journal_of list) ≡ map as_moment (sighted_in c list)
+all_moments : (c : ControlState) (list : List Signed) → moments c (journal_of list) ≡ map as_moment (sighted_in c list)
 all_moments c [] = refl
 all_moments c (signed ∷ later) = λ k. (record { control = c; made = made_of signed }) ∷ all_moments (applied c (own_events c (made_of signed))) later k
 
-pub lane_moments : (lane : ℕ) (c : Control) (list : List Signed) → moments_on lane c (journal_of list) ≡ map as_moment (sighted_on lane c list)
+pub lane_moments : (lane : ℕ) (c : ControlState) (list : List Signed) → moments_on lane c (journal_of list) ≡ map as_moment (sighted_on lane c list)
 lane_moments lane c list =
     ap (filter (λ (m : Moment). lane == m.made.entry.lane)) (all_moments c list) ∙ filter_of_map (λ (m : Moment). lane == m.made.entry.lane) as_moment (sighted_in c list)
 
-all_signed : (c : Control) (list : List Signed) → map (λ s. s.signed) (sighted_in c list) ≡ list
+all_signed : (c : ControlState) (list : List Signed) → map (λ s. s.signed) (sighted_in c list) ≡ list
 all_signed c [] = refl
 all_signed c (signed ∷ later) = λ k. signed ∷ all_signed (applied c (own_events c (made_of signed))) later k
 
@@ -60,26 +60,26 @@ either_lane lane (signed ∷ list) =
     ap (λ (l : List Signed). cond (lane == signed.entry.lane) (signed ∷ l) l) (either_lane lane list)
     ∙ ap (λ (b : Bool). cond b (signed ∷ of_lane signed_lane lane list) (of_lane signed_lane lane list)) (either_way lane signed.entry.lane)
 
-pub lane_signed : (lane : ℕ) (c : Control) (list : List Signed) → map (λ s. s.signed) (sighted_on lane c list) ≡ of_lane signed_lane lane list
+pub lane_signed : (lane : ℕ) (c : ControlState) (list : List Signed) → map (λ s. s.signed) (sighted_on lane c list) ≡ of_lane signed_lane lane list
 lane_signed lane c list =
     sym (filter_of_map (λ (s : Signed). lane == s.entry.lane) (λ (s : Sighted). s.signed) (sighted_in c list))
     ∙ ap (filter (λ (s : Signed). lane == s.entry.lane)) (all_signed c list)
     ∙ either_lane lane list
 
-all_seen : (c : Control) (list : List Signed) → SeeAll c list → AllByRecursion HasSeenAll (sighted_in c list)
+all_seen : (c : ControlState) (list : List Signed) → SeeAll c list → AllByRecursion HasSeenAll (sighted_in c list)
 all_seen c [] seen = tt
 all_seen c (signed ∷ later) seen = (seen.0, all_seen (applied c (own_events c (made_of signed))) later seen.1)
 
-pub lane_seen : (lane : ℕ) (c : Control) (list : List Signed) → SeeAll c list → AllByRecursion HasSeenAll (sighted_on lane c list)
+pub lane_seen : (lane : ℕ) (c : ControlState) (list : List Signed) → SeeAll c list → AllByRecursion HasSeenAll (sighted_on lane c list)
 lane_seen lane c list seen = All-filter HasSeenAll (λ s. lane == s.signed.entry.lane) (sighted_in c list) (all_seen c list seen)
 
 -- ---- A lane without a call
 
-all_made : (c : Control) (journal : List Made) → map (λ (m : Moment). m.made) (moments c journal) ≡ journal
+all_made : (c : ControlState) (journal : List Made) → map (λ (m : Moment). m.made) (moments c journal) ≡ journal
 all_made c [] = refl
 all_made c (made ∷ later) = λ k. made ∷ all_made (applied c (own_events c made)) later k
 
-pub no_moments : (lane : ℕ) (c : Control) (journal : List Made) → made_on lane journal ≡ [] → moments_on lane c journal ≡ []
+pub no_moments : (lane : ℕ) (c : ControlState) (journal : List Made) → made_on lane journal ≡ [] → moments_on lane c journal ≡ []
 no_moments lane c journal none =
     nothing_of (λ (m : Moment). m.made) (moments_on lane c journal)
     (sym (filter_of_map (λ (made : Made). lane == made.entry.lane) (λ (m : Moment). m.made) (moments c journal))

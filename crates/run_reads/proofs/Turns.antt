@@ -11,7 +11,7 @@ use Rattle.ctl_lock.specs.declared.signed.Signed.{Signed}
 use Rattle.p4_types.specs.declared.calls.Call.{Call}
 use Rattle.p4_types.specs.declared.calls.Call.TheVariants as calls
 use Rattle.p4_types.specs.declared.events.Start.{Start}
-use Rattle.plane_spec.specs.Planes.{Control}
+use Rattle.plane_spec.specs.Planes.{ControlState}
 use Rattle.run_counts.proofs.Rising.{AreNoMore, counted_alike, counted_rises, known_below, no_more_self, no_more_trans}
 use Rattle.run_counts.specs.Reading.{AreBounded, IsNoMore, Moment, is_read, known_behind}
 use Rattle.run_spec.specs.Report.{carried_after, figures_out}
@@ -22,7 +22,7 @@ use Rattle.switch_spec.specs.History.{is_refused_for_memory}
 
 -- a call that was signed, beside the state that the calls before it left
 pub record Sighted : Type 0 where
-  pub control : Control
+  pub control : ControlState
   pub signed : Signed
 
 -- the same as a call of the journal

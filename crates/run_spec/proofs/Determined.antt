@@ -14,7 +14,7 @@ use Rattle.p4_types.specs.declared.tape.Who.TheVariants.{Controller, Worker}
 use Rattle.switch_spec.specs.declared.calls.LaneCall.{LaneCall}
 use Rattle.switch_spec.specs.declared.calls.LaneCall.TheVariants.{Asks, Leaves}
 use Rattle.plane_spec.specs.Config.{Event}
-use Rattle.plane_spec.specs.Planes.{Control, applied, after}
+use Rattle.plane_spec.specs.Planes.{ControlState, applied, after}
 use Rattle.switch_spec.specs.History.{Made, History, Numbered, own_events, journal_events, published, is_refused_for_memory, expected, answered}
 use Rattle.switch_spec.specs.Counts.{Figures, no_figures, Arrival, Carried, counted}
 use Rattle.switch_spec.specs.Meaning as meaning
@@ -78,7 +78,7 @@ first_carried start whole list rest p who port packet x h is who_is arrival_is s
     ∙ ap (λ w. meaning.carried w r.index r.steps (after start whole r.steps) x.arrival.0 x.arrival.1) who_is
     ∙ ap (λ i. meaning.carried who i r.steps (after start whole r.steps) x.arrival.0 x.arrival.1) index
     ∙ ap (λ n. meaning.carried who (next_packet who p) n (after start whole n) x.arrival.0 x.arrival.1) steps_are
-    ∙ ap (λ (c : Control). meaning.carried who (next_packet who p) p.steps c x.arrival.0 x.arrival.1) state
+    ∙ ap (λ (c : ControlState). meaning.carried who (next_packet who p) p.steps c x.arrival.0 x.arrival.1) state
     ∙ ap (λ (a : Arrival). meaning.carried who (next_packet who p) p.steps p.control a.0 a.1) arrival_is in
     ap (λ (a : Arrival). let carried_of : Carried = record { arrival = a; outcome = r } in carried_of) arrival_is
     ∙ ap (λ (o : Record). let carried_of : Carried = record { arrival = (port, packet); outcome = o } in carried_of) outcome
@@ -151,7 +151,7 @@ rest_of_call start whole list p lane call tape m journal records is at h =
     let W : List Carried → Type 0 = λ r. AllByRecursion (Fits start whole) r in
     record {
       follows = subst (λ (n : ℕ). Lockstep start n (play_call p lane call).figures tape journal rest) (sym (behind p lane call).steps) lockstep_figures;
-      history = subst (λ (c : Control). History c (play_call p lane call).steps journal) (sym (behind p lane call).control) history_steps;
+      history = subst (λ (c : ControlState). History c (play_call p lane call).steps journal) (sym (behind p lane call).control) history_steps;
       none_refused = h.none_refused.1;
       numbered = subst (λ (j : List Entry). Numbered j (map (λ y. y.entry) journal)) (sym (behind p lane call).journal) numbered;
       in_turn = in_turn_behind q lane o rest (subst T split h.in_turn);
@@ -160,7 +160,7 @@ rest_of_call start whole list p lane call tape m journal records is at h =
           ∙ ap (λ (own : List Event). list ++ ((own ++ journal_events (applied p.control own) journal) ++ events.Close ∷ [])) own
           ∙ ap (λ (rest : List Event). list ++ rest) (append_assoc (call_events p lane call) _ _)
           ∙ sym (append_assoc list (call_events p lane call) _)
-          ∙ ap (λ (c : Control). (list ++ call_events p lane call) ++ (journal_events c journal ++ events.Close ∷ [])) (sym (behind p lane call).control);
+          ∙ ap (λ (c : ControlState). (list ++ call_events p lane call) ++ (journal_events c journal ++ events.Close ∷ [])) (sym (behind p lane call).control);
     }
 
 -- with the first entry and the packet that it makes enter in front

@@ -17,7 +17,7 @@ use Rattle.p4_types.specs.declared.tape.Who.TheVariants.{Controller, Worker}
 use Rattle.switch_spec.specs.declared.calls.LaneCall.{LaneCall}
 use Rattle.plane_spec.specs.Config.{Event}
 use Rattle.plane_spec.specs.Legal.{Legal}
-use Rattle.plane_spec.specs.Planes.{Control, Plane, opened, apply, applied, after}
+use Rattle.plane_spec.specs.Planes.{ControlState, Plane, opened, apply, applied, after}
 use Rattle.switch_spec.specs.History.{journal_events, published, step_of, steps_of}
 use Rattle.switch_spec.specs.Counts.{Figures, Carried, counted, counts_in, cells_in, count_lines, cell_lines}
 use Rattle.switch_spec.specs.Meaning as meaning
@@ -46,7 +46,7 @@ pub events_played : (p : Played) (tape : List Turn) → journal_events p.control
 events_played p [] = refl
 events_played p (Answers lane call ∷ tape) =
     ap (λ (list : List Event). list ++ journal_events (applied p.control list) (made (play_call p lane call) tape)) (own_events_of p.control p.figures p.steps lane (next_call lane p) call)
-    ∙ ap (λ (c : Control). call_events p lane call ++ journal_events c (made (play_call p lane call) tape)) (sym (behind p lane call).control)
+    ∙ ap (λ (c : ControlState). call_events p lane call ++ journal_events c (made (play_call p lane call) tape)) (sym (behind p lane call).control)
     ∙ ap (λ (rest : List Event). call_events p lane call ++ rest) (events_played (play_call p lane call) tape)
 events_played p (Refuses lane call ∷ tape) = events_played (play_refusal p lane) tape
 events_played p (Carries lane port packet ∷ tape) = events_played (play_packet p (Worker lane) port packet) tape
@@ -57,10 +57,10 @@ legal_played p [] h = (h, tt)
 legal_played p (Answers lane call ∷ tape) h =
     let sound = answer_sound p.control p.figures lane (next_call lane p) call in
     let rest : List Event = events_from (play_call p lane call) tape ++ events.Close ∷ [] in
-    let later : Legal (play_call p lane call).control rest = legal_played (play_call p lane call) tape (ap (λ (c : Control). c.closed) (behind p lane call).control ∙ sound.still_open h) in
+    let later : Legal (play_call p lane call).control rest = legal_played (play_call p lane call) tape (ap (λ (c : ControlState). c.closed) (behind p lane call).control ∙ sound.still_open h) in
     let P : List Event → Type 0 = λ list. Legal p.control list in
     subst P (sym (append_assoc (call_events p lane call) (events_from (play_call p lane call) tape) (events.Close ∷ [])))
-    (sound.legal h _ (subst (λ (c : Control). Legal c rest) (behind p lane call).control later))
+    (sound.legal h _ (subst (λ (c : ControlState). Legal c rest) (behind p lane call).control later))
 legal_played p (Refuses lane call ∷ tape) h = legal_played (play_refusal p lane) tape h
 legal_played p (Carries lane port packet ∷ tape) h = legal_played (play_packet p (Worker lane) port packet) tape h
 legal_played p (Finds lane controller call ∷ tape) h = legal_played p tape h
@@ -90,7 +90,7 @@ after_call start list p lane call h =
 
 -- the CPU port is that of the start
 pub cpu_after : (start : Start) (list : List Event) (p : Played) → IsAfter start list p → p.control.cpu ≡ start.cpu
-cpu_after start list p h = ap (λ (c : Control). c.cpu) h.control ∙ cpu_stays list (opened start)
+cpu_after start list p h = ap (λ (c : ControlState). c.cpu) h.control ∙ cpu_stays list (opened start)
 
 -- the state after as many steps of the whole list
 pub state_after : (start : Start) (list rest : List Event) (p : Played) → IsAfter start list p → after start (list ++ rest) p.steps ≡ p.control
@@ -105,7 +105,7 @@ in_list_after start list rest p h =
 fits_one : (start : Start) (whole list rest : List Event) (p : Played) (who : Who) (port : ℕ) (packet : List ℕ) → IsAfter start list p → whole ≡ list ++ rest → Fits start whole (carried_packet p who port packet)
 fits_one start whole list rest p who port packet h is = record {
   in_list = let P : List Event → Type 0 = λ all. p.steps ≤ length (steps_of all) in subst P (sym is) (in_list_after start list rest p h);
-  meant = ap (λ (c : Control). meaning.carried who (next_packet who p) p.steps c port packet) (sym (ap (λ all. after start all p.steps) is ∙ state_after start list rest p h));
+  meant = ap (λ (c : ControlState). meaning.carried who (next_packet who p) p.steps c port packet) (sym (ap (λ all. after start all p.steps) is ∙ state_after start list rest p h));
 }
 
 -- so does one that a call makes enter
@@ -157,7 +157,7 @@ unfolding play
 control_played p [] = refl
 control_played p (Answers lane call ∷ tape) =
     control_played (play_call p lane call) tape
-    ∙ ap (λ (c : Control). applied c (events_from (play_call p lane call) tape)) (behind p lane call).control
+    ∙ ap (λ (c : ControlState). applied c (events_from (play_call p lane call) tape)) (behind p lane call).control
     ∙ sym (fold-append apply p.control (call_events p lane call) (events_from (play_call p lane call) tape))
 control_played p (Refuses lane call ∷ tape) = control_played (play_refusal p lane) tape
 control_played p (Carries lane port packet ∷ tape) = control_played (play_packet p (Worker lane) port packet) tape
@@ -182,8 +182,8 @@ final_active start tape =
     let list : List Event = events_from (begun start) tape in
     let end_is : published start (made (begun start) tape) ≡ list ++ events.Close ∷ [] = ap (λ rest. rest ++ events.Close ∷ []) (events_played (begun start) tape) in
     ap (λ rest. (applied (opened start) rest).active) end_is
-    ∙ ap (λ (c : Control). c.active) (fold-append apply (opened start) list (events.Close ∷ []))
-    ∙ ap (λ (c : Control). c.active) (sym (control_played (begun start) tape))
+    ∙ ap (λ (c : ControlState). c.active) (fold-append apply (opened start) list (events.Close ∷ []))
+    ∙ ap (λ (c : ControlState). c.active) (sym (control_played (begun start) tape))
 
 -- what the counters have counted is what the records say
 pub lines_played : (start : Start) (tape : List Turn) → NameMade no_lanes (items_of tape)

@@ -13,7 +13,7 @@ use Rattle.p4_types.specs.declared.tape.TapeRecord.{TapeRecord}
 use Rattle.switch_spec.specs.Answer.{answer}
 use Rattle.switch_spec.specs.declared.calls.LaneCall.{LaneCall}
 use Rattle.switch_spec.specs.declared.calls.LaneCall.TheVariants.{Asks, Leaves}
-use Rattle.plane_spec.specs.Planes.{Control, applied}
+use Rattle.plane_spec.specs.Planes.{ControlState, applied}
 use Rattle.switch_spec.specs.History.{Made, History, Numbered, own_events, steps_of, expected, answered, refused_for_memory}
 use Rattle.switch_spec.specs.Counts.{Figures, Carried, counted}
 use Rattle.switch_spec.specs.Meaning as meaning
@@ -140,7 +140,7 @@ lockstep_played start p (Answers lane call ∷ tape) cpu =
     let m : Made = made_call p lane call in
     let rest : List Carried = carried (play_call p lane call) tape in
     let cpu_q = cpu_behind start p lane call cpu in
-    let cpu_r : (play_call p lane call).control.cpu ≡ start.cpu = ap (λ (c : Control). c.cpu) (behind p lane call).control ∙ cpu_q in
+    let cpu_r : (play_call p lane call).control.cpu ≡ start.cpu = ap (λ (c : ControlState). c.cpu) (behind p lane call).control ∙ cpu_q in
     let follows = carried_next start q lane o m rest cpu_q refl refl in
     let L : ℕ → Figures → List Carried → Type 0 = λ n g r. Lockstep start n g (items_of tape) (made (play_call p lane call) tape) r in
     let later : L (play_call p lane call).steps (play_call p lane call).figures rest = lockstep_played start (play_call p lane call) tape cpu_r in
@@ -156,11 +156,11 @@ lockstep_played start p (Carries lane port packet ∷ tape) cpu = (refl, refl, r
 lockstep_played start p (Finds lane controller call ∷ tape) cpu = lockstep_played start p tape cpu
 
 -- a call that is answered has the entry that it has to have, and its events are its own
-pub is_expected : (c : Control) (g : Figures) (n lane k : ℕ) (call : LaneCall)
+pub is_expected : (c : ControlState) (g : Figures) (n lane k : ℕ) (call : LaneCall)
     → answered c g n lane k call ≡ expected c n (record { call = call; figures = g; entry = answered c g n lane k call })
 is_expected c g n lane k call = sym (cond-false _ _ _ (answer_sound c g lane k call).available)
 
-pub own_events_of : (c : Control) (g : Figures) (n lane k : ℕ) (call : LaneCall)
+pub own_events_of : (c : ControlState) (g : Figures) (n lane k : ℕ) (call : LaneCall)
     → own_events c (record { call = call; figures = g; entry = answered c g n lane k call }) ≡ (answer c g lane k call).events
 own_events_of c g n lane k call = cond-false _ _ _ (answer_sound c g lane k call).available
 
@@ -171,7 +171,7 @@ history_played p (Answers lane call ∷ tape) =
     let rest : List Made = made (play_call p lane call) tape in
     let later : History (play_call p lane call).control (play_call p lane call).steps rest = history_played (play_call p lane call) tape in
     let at_steps : History (play_call p lane call).control q.steps rest = subst (λ n. History (play_call p lane call).control n rest) (behind p lane call).steps later in
-    let at_control : History q.control q.steps rest = subst (λ (c : Control). History c q.steps rest) (behind p lane call).control at_steps in (
+    let at_control : History q.control q.steps rest = subst (λ (c : ControlState). History c q.steps rest) (behind p lane call).control at_steps in (
       is_expected p.control p.figures p.steps lane (next_call lane p) call,
       let P : List Event → Type 0 = λ list. History (applied p.control list) q.steps rest in
           subst P (sym (own_events_of p.control p.figures p.steps lane (next_call lane p) call)) at_control,

@@ -12,7 +12,7 @@ use Rattle.switch_spec.specs.Counts.{Figures, no_figures, figures_after, count_l
 use Rattle.switch_spec.specs.Answer.{Answer, answer}
 use Rattle.switch_spec.specs.declared.calls.LaneCall.{LaneCall}
 use Rattle.switch_spec.specs.declared.calls.LaneCall.TheVariants.{Asks, Leaves}
-use Rattle.plane_spec.specs.Planes.{Control, opened, applied}
+use Rattle.plane_spec.specs.Planes.{ControlState, opened, applied}
 use Rattle.switch_spec.specs.History.{answered, refused_for_memory}
 use Rattle.switch_spec.specs.Meaning.{carried}
 use Rattle.run_spec.specs.Report.{IsLockstepReport}
@@ -22,7 +22,7 @@ use Rattle.run_spec.specs.Tape.{no_lanes, NameMade}
 
 -- the run so far
 pub record Played : Type 0 where
-  pub control : Control
+  pub control : ControlState
   pub steps : ℕ
   pub journal : List Entry
   pub records : List Record

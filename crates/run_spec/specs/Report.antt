@@ -14,7 +14,7 @@ use Rattle.switch_spec.specs.declared.calls.WorkerItem.{WorkerItem}
 use Rattle.switch_spec.specs.declared.calls.WorkerItem.TheVariants.{Brings, Meets}
 use Rattle.plane_spec.specs.Config.{Event}
 use Rattle.plane_spec.specs.Legal.{Legal}
-use Rattle.plane_spec.specs.Planes.{Control, opened, applied, after}
+use Rattle.plane_spec.specs.Planes.{ControlState, opened, applied, after}
 use Rattle.switch_spec.specs.Counts.{Figures, Arrival, Carried, no_figures, counted, counts_in, cells_in}
 use Rattle.switch_spec.specs.History.{Made, History, Numbered, published, steps_of, is_refused_for_memory}
 use Rattle.switch_spec.specs.Meaning.{carried}

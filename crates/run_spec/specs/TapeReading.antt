@@ -4,7 +4,7 @@ use Rattle.p4_types.specs.declared.calls.Method.{Method}
 use Rattle.p4_types.specs.declared.calls.Method.TheVariants as methods
 use Rattle.p4_types.specs.declared.tape.TapeRecord.{TapeRecord}
 use Rattle.p4_types.specs.declared.tape.TapeRecord.TheVariants.{Call, Packet, Leave, Meet}
-use Rattle.wire_fields.specs.Reading.{◌>>=◌}
+use Rattle.list_types.specs.Results.{◌>>=◌}
 use Rattle.run_spec.specs.Tape.{Lanes}
 
 -- A big-endian number of so many bytes, at least low and at most high, and the bytes after it. A byte is bad

@@ -15,7 +15,7 @@ use Rattle.plane_spec.specs.Config.{cells_in}
 use Rattle.plane_spec.specs.Entries.{slot_limit}
 use Rattle.plane_spec.specs.Legal.{Legal}
 use Rattle.plane_spec.specs.PlaneLaws.{numbers_from, slots_of, IsSoundControl}
-use Rattle.plane_spec.specs.Planes.{Control, Plane, opened}
+use Rattle.plane_spec.specs.Planes.{ControlState, Plane, opened}
 use Rattle.pub_snap.specs.Beginnings.{Beginning}
 use Rattle.snap_worker.specs.Counting.{IsWithin}
 use Rattle.snap_worker.specs.Working.{state_after, verdict_in}
@@ -65,7 +65,7 @@ mark_within plane all (marks.Cell slot) there =
     of_numbers (λ x. x < slot_limit) (cells_in plane.config) plane.cells slot
     (All-right (λ x. x < slot_limit) (filter_map (λ (e : Entry). e.slot) plane.entries) (numbers_from (cells_in plane.config) plane.cells) all) there.0 there.1
 
-below_limit : (c : Control) → IsSoundControl c → All (λ slot. slot < slot_limit) (slots_of c.active)
+below_limit : (c : ControlState) → IsSoundControl c → All (λ slot. slot < slot_limit) (slots_of c.active)
 below_limit c sound =
     let limit = sound.slot_limit in
     All-weaker (λ slot. slot < c.next_slot) (λ slot. slot < slot_limit) (λ slot lt. omega (arith, lt, limit)) (slots_of c.active) (All-left (λ slot. slot < c.next_slot) (slots_of c.active) (slots_of c.staged) sound.slots)
@@ -78,5 +78,5 @@ all_within (Some plane) cpu port packet all = All-weaker (IsThere plane) (IsWith
 -- in a state that legal events lead to, the slots of what a packet hits are below the limit
 pub hits_within : (told : Beginning) → Legal (opened told.start) told.events → (port : ℕ) (packet : List ℕ) → All (IsWithin slot_limit) (verdict_in (state_after told) port packet).hits
 hits_within told legal port packet =
-    let c : Control = state_after told in
+    let c : ControlState = state_after told in
     all_within c.active c.cpu port packet (below_limit c (planes_stay_sound told.start told.events legal))

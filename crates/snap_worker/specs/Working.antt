@@ -3,7 +3,7 @@ use Rattle.std.specs.Prelude.{ℕ, ◌+◌, ◌-◌, ◌^◌, min, false, List, 
 use Rattle.counter_bank.specs.Account.{Account}
 use Rattle.event_log.specs.Lists.{no_list}
 use Rattle.packet_spec.specs.Meaning.{Verdict, meaning}
-use Rattle.plane_spec.specs.Planes.{Control, opened, applied}
+use Rattle.plane_spec.specs.Planes.{ControlState, opened, applied}
 use Rattle.pub_snap.specs.Beginnings.{Beginning}
 use Rattle.pub_snap.specs.Snapshots.{Sight}
 
@@ -36,9 +36,9 @@ abbrev pub one_more : ℕ → ℕ
 one_more refusals = min (refusals + 1) (2 ^ 64 - 1)
 
 -- the control state after the events that were told
-abbrev pub state_after : Beginning → Control
+abbrev pub state_after : Beginning → ControlState
 state_after told = applied (opened told.start) told.events
 
 -- what becomes of a packet that enters at a port in the active plane of a control state
-abbrev pub verdict_in : Control → ℕ → List ℕ → Verdict
+abbrev pub verdict_in : ControlState → ℕ → List ℕ → Verdict
 verdict_in c port packet = meaning c.active c.cpu port packet

@@ -79,7 +79,7 @@ pub(crate) fn load(
     ensures own { IfOk result (λ loaded. NotesOwn (length loaded) seat.new) }
     ensures all { IfOk result (λ loaded. length loaded ≡ slots) }
 {
-    let mut figures = List::new(alloc);
+    let mut figures = List::from_vec(Vec::with_capacity(alloc, slots as usize)?);
     for slot in 0..slots {
         load_next(bank, seat, slot, &mut figures)?;
     }

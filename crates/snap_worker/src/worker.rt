@@ -14,7 +14,7 @@ use crate::counting::count_hits;
 use crate::loading::{Loaded, load};
 use crate::watch::Watch;
 use counter_bank::{Bank, Seat};
-use list_types::NoMemory;
+use list_types::{NoMemory, Refusal};
 use pkt_worker::{Scratch, Verdict};
 use pub_snap::{Told, Viewer};
 use std::alloc::Global;
@@ -23,6 +23,16 @@ use std::marker::Model;
 /// There was no snapshot to enter, which the viewer counted.
 #[derive(Clone, Copy)]
 pub struct NoEntry;
+
+impl From<NoEntry> for Refusal<NoEntry> {
+    ghost use Rattle.list_types.specs.declared.memory.Refusal.TheVariants as refusals;
+
+    ghost from_gives = { λ cause e. e ≡ refusals.For cause };
+
+    fn from(cause: NoEntry) -> Refusal<NoEntry> {
+        Refusal::For(cause)
+    }
+}
 
 /// One who runs packets on snapshots of the control state, and counts what they hit at a seat of the counters.
 #[derive(Drop)]

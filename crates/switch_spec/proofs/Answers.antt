@@ -42,7 +42,7 @@ use Rattle.switch_spec.specs.Counts.{Figures}
 use Rattle.plane_spec.specs.Config.{Event}
 use Rattle.plane_spec.specs.Legal.{MayChanges, Legal}
 use Rattle.plane_spec.specs.Objects.{table_of}
-use Rattle.plane_spec.specs.Planes.{Control, Plane, target, primary, is_of_primary, with_roles, change_applied, outcome, applied, outcomes, state_after}
+use Rattle.plane_spec.specs.Planes.{ControlState, Plane, target, primary, is_of_primary, with_roles, change_applied, outcome, applied, outcomes, state_after}
 use Rattle.plane_spec.proofs.Steady.{change_steady, fold_closed, fold_next}
 use Rattle.switch_spec.specs.Reading.{entry_refusal_in, direct_refusal, entity_refusal, first_of, read_unless, read_in, read_result}
 use Rattle.switch_spec.specs.History.{is_unavailable, steps_of}
@@ -50,14 +50,14 @@ use Rattle.switch_spec.proofs.Settings.{set_sound, get_sound}
 use Rattle.switch_spec.proofs.Sound.{IsSound, Available, plain_sound}
 
 -- as the roles stay, so do the primaries
-still_of_primary : (c d : Control) (role : ℕ) (id : Uint128) → d.roles ≡ c.roles → is_of_primary (primary d role) id ≡ is_of_primary (primary c role) id
+still_of_primary : (c d : ControlState) (role : ℕ) (id : Uint128) → d.roles ≡ c.roles → is_of_primary (primary d role) id ≡ is_of_primary (primary c role) id
 still_of_primary c d role id is = ap (λ roles. is_of_primary (primary (with_roles c roles) role) id) is
 
 -- each change is an event of its own
 abbrev pub each : Origin → List Change → List Event
 each by list = map (events.Change by) list
 
-each_applied : (by : Origin) (list : List Change) (c : Control) → applied c (each by list) ≡ fold change_applied c list
+each_applied : (by : Origin) (list : List Change) (c : ControlState) → applied c (each by list) ≡ fold change_applied c list
 each_applied by [] c = refl
 each_applied by (change ∷ list) c = each_applied by list (change_applied c change)
 
@@ -70,38 +70,38 @@ each_length by [] = refl
 each_length by (change ∷ list) = ap (λ n. suc n) (each_length by list)
 
 -- the changes that a list of updates makes
-abbrev pub made_by : Control → ℕ → List Update → List Change
+abbrev pub made_by : ControlState → ℕ → List Update → List Change
 made_by c role updates = filter_map result_ok (outcomes c role updates)
 
-few_more : (r : Result Change Cause) (c : Control) (role : ℕ) (updates : List Update) → ((d : Control) → length (made_by d role updates) ≤ length updates)
+few_more : (r : Result Change Cause) (c : ControlState) (role : ℕ) (updates : List Update) → ((d : ControlState) → length (made_by d role updates) ≤ length updates)
     → length (filter_map result_ok (r ∷ outcomes (state_after c r) role updates)) ≤ suc (length updates)
 few_more (Ok change) c role updates few = omega (arith, few (change_applied c change))
 few_more (Err cause) c role updates few = omega (arith, few c)
 
-made_few : (updates : List Update) (c : Control) (role : ℕ) → length (made_by c role updates) ≤ length updates
+made_few : (updates : List Update) (c : ControlState) (role : ℕ) → length (made_by c role updates) ≤ length updates
 made_few [] c role = omega arith
 made_few (update ∷ updates) c role = few_more (outcome c role update) c role updates (λ d. made_few updates d role)
 
 -- one more may be made, where the rest may be in the state behind it
-may_more : (r : Result Change Cause) (c : Control) (by : Origin) (update : Update) (updates : List Update) → is_of_primary (primary c by.role) by.election_id ≡ true → outcome c by.role update ≡ r
-    → ((d : Control) → is_of_primary (primary d by.role) by.election_id ≡ true → MayChanges d by (made_by d by.role updates))
+may_more : (r : Result Change Cause) (c : ControlState) (by : Origin) (update : Update) (updates : List Update) → is_of_primary (primary c by.role) by.election_id ≡ true → outcome c by.role update ≡ r
+    → ((d : ControlState) → is_of_primary (primary d by.role) by.election_id ≡ true → MayChanges d by (made_by d by.role updates))
     → MayChanges c by (filter_map result_ok (r ∷ outcomes (state_after c r) by.role updates))
 may_more (Ok change) c by update updates h is rest =
     (record { by_primary = h; update = update; no_cause = is }, rest (change_applied c change) (still_of_primary c (change_applied c change) by.role by.election_id (change_steady change c).roles ∙ h))
 may_more (Err cause) c by update updates h is rest = rest c h
 
 -- they may be made, each in its turn
-made_may : (updates : List Update) (c : Control) (by : Origin) → is_of_primary (primary c by.role) by.election_id ≡ true → MayChanges c by (made_by c by.role updates)
+made_may : (updates : List Update) (c : ControlState) (by : Origin) → is_of_primary (primary c by.role) by.election_id ≡ true → MayChanges c by (made_by c by.role updates)
 made_may [] c by h = tt
 made_may (update ∷ updates) c by h = may_more (outcome c by.role update) c by update updates h refl (λ d. made_may updates d by)
 
-each_legal : (list : List Change) (c : Control) (by : Origin) → c.closed ≡ false → MayChanges c by list
+each_legal : (list : List Change) (c : ControlState) (by : Origin) → c.closed ≡ false → MayChanges c by list
     → (rest : List Event) → Legal (applied c (each by list)) rest → Legal c (each by list ++ rest)
 each_legal [] c by alive may rest later = later
 each_legal (change ∷ list) c by alive may rest later =
     ((alive, may.0), each_legal list (change_applied c change) by ((change_steady change c).closed ∙ alive) may.1 rest later)
 
-batch_legal : (list : List Change) (c : Control) (by : Origin) → c.closed ≡ false → length list ≤ 4096 → MayChanges c by list
+batch_legal : (list : List Change) (c : ControlState) (by : Origin) → c.closed ≡ false → length list ≤ 4096 → MayChanges c by list
     → (rest : List Event) → Legal (applied c (batch by list)) rest → Legal c (batch by list ++ rest)
 batch_legal [] c by alive few may rest later = later
 batch_legal (change ∷ list) c by alive few may rest later = ((alive, omega arith, few, may), later)
@@ -163,7 +163,7 @@ first_available info [] = tt
 first_available info (asked ∷ list) = first_more (entity_refusal info asked) _ (entity_available info asked) (first_available info list)
 
 -- what a refused Write has passed
-record HasPassed (c : Control) (request : WriteRequest) : Type 0 where
+record HasPassed (c : ControlState) (request : WriteRequest) : Type 0 where
   primary : is_of_primary (primary c request.role_id) request.election_id ≡ true
   size : length request.updates ≤ 4096
 
@@ -178,7 +178,7 @@ passed_by false b c d e h = absurd (cc)
 not_lt : (m n : ℕ) → nat_lt m n ≡ false → n ≤ m
 not_lt m n h = grind (arith, h)
 
-passed : (c : Control) (request : WriteRequest) → write_refusal c request ≡ None → HasPassed c request
+passed : (c : ControlState) (request : WriteRequest) → write_refusal c request ≡ None → HasPassed c request
 passed c request h =
     let parts = passed_by (request.device_id == c.device) (is_of_primary (primary c request.role_id) request.election_id) (is_some (target c)) (is_some (atomicity_of request.atomicity)) (nat_lt 4096 (length request.updates)) h in record { primary = parts.0; size = not_lt _ _ parts.1 }
 
@@ -190,7 +190,7 @@ reply_packet : (b : Bool) (errors : List Error) → IfSome (write_reply b errors
 reply_packet true errors = tt
 reply_packet false errors = tt
 
-continued_sound : (c : Control) (by : Origin) (updates : List Update) → is_of_primary (primary c by.role) by.election_id ≡ true → length updates ≤ 4096
+continued_sound : (c : ControlState) (by : Origin) (updates : List Update) → is_of_primary (primary c by.role) by.election_id ≡ true → length updates ≤ 4096
     → IsSound c (continued by (outcomes c by.role updates))
 continued_sound c by updates primary size =
     let list = made_by c by.role updates in
@@ -205,17 +205,17 @@ continued_sound c by updates primary size =
     }
 
 -- the events of a batch that succeeds
-record IsBatchSound (c : Control) (list : List Event) : Type 0 where
+record IsBatchSound (c : ControlState) (list : List Event) : Type 0 where
   all_steps : length (steps_of list) ≡ length list
   legal : c.closed ≡ false → (rest : List Event) → Legal (applied c list) rest → Legal c (list ++ rest)
   closed : (applied c list).closed ≡ c.closed
   few_steps : length (steps_of list) ≤ 4096
   few_numbers : (applied c list).next ≤ c.next + 4096
 
-no_batch : (c : Control) → IsBatchSound c []
+no_batch : (c : ControlState) → IsBatchSound c []
 no_batch c = record { all_steps = refl; legal = λ alive rest later. later; closed = refl; few_steps = omega arith; few_numbers = omega arith }
 
-one_batch : (c : Control) (by : Origin) (list : List Change) → length list ≤ 4096 → MayChanges c by list → IsBatchSound c (batch by list)
+one_batch : (c : ControlState) (by : Origin) (list : List Change) → length list ≤ 4096 → MayChanges c by list → IsBatchSound c (batch by list)
 one_batch c by [] few may = no_batch c
 one_batch c by (change ∷ list) few may = record {
   all_steps = refl;
@@ -225,11 +225,11 @@ one_batch c by (change ∷ list) few may = record {
   few_numbers = omega (arith, fold_next (change ∷ list) c, few);
 }
 
-batch_unless : (b : Bool) (c : Control) (by : Origin) (list : List Change) → length list ≤ 4096 → MayChanges c by list → IsBatchSound c (if b then [] else batch by list)
+batch_unless : (b : Bool) (c : ControlState) (by : Origin) (list : List Change) → length list ≤ 4096 → MayChanges c by list → IsBatchSound c (if b then [] else batch by list)
 batch_unless true c by list few may = no_batch c
 batch_unless false c by list few may = one_batch c by list few may
 
-atomic_sound : (c : Control) (by : Origin) (updates : List Update) → is_of_primary (primary c by.role) by.election_id ≡ true → length updates ≤ 4096
+atomic_sound : (c : ControlState) (by : Origin) (updates : List Update) → is_of_primary (primary c by.role) by.election_id ≡ true → length updates ≤ 4096
     → IsSound c (all_or_nothing by (outcomes c by.role updates))
 atomic_sound c by updates primary size =
     let sound = batch_unless (has_failed (outcomes c by.role updates)) c by (made_by c by.role updates) (omega (arith, made_few updates c by.role, size)) (made_may updates c by primary) in record {
@@ -242,12 +242,12 @@ atomic_sound c by updates primary size =
       few_numbers = sound.few_numbers;
     }
 
-written_sound : (b : Bool) (c : Control) (by : Origin) (updates : List Update) → is_of_primary (primary c by.role) by.election_id ≡ true → length updates ≤ 4096
+written_sound : (b : Bool) (c : ControlState) (by : Origin) (updates : List Update) → is_of_primary (primary c by.role) by.election_id ≡ true → length updates ≤ 4096
     → IsSound c (if b then all_or_nothing by (outcomes c by.role updates) else continued by (outcomes c by.role updates))
 written_sound true c by updates primary size = atomic_sound c by updates primary size
 written_sound false c by updates primary size = continued_sound c by updates primary size
 
-write_sound : (o : Option Code) (c : Control) (lane k : ℕ) (request : WriteRequest) → write_refusal c request ≡ o → Available o → IsSound c (write_unless o c lane k request)
+write_sound : (o : Option Code) (c : ControlState) (lane k : ℕ) (request : WriteRequest) → write_refusal c request ≡ o → Available o → IsSound c (write_unless o c lane k request)
 write_sound (Some code) c lane k request is available = plain_sound c code _ available
 write_sound None c lane k request is available =
     let h = passed c request is in written_sound (is_atomic (atomicity_of request.atomicity)) c (origin lane k request) request.updates h.primary h.size
@@ -264,11 +264,11 @@ device_available : (b : Bool) (r : Result (List (List ℕ)) Code) → IfErr r (�
 device_available true r h = h
 device_available false r h = refl
 
-read_available : (c : Control) (g : Figures) (request : ReadRequest) → IfErr (read_result c g request) (λ code. is_unavailable code ≡ false)
+read_available : (c : ControlState) (g : Figures) (request : ReadRequest) → IfErr (read_result c g request) (λ code. is_unavailable code ≡ false)
 unfolding read_result
 read_available c g request = device_available (request.device_id == c.device) _ (plane_available (target c) g request)
 
-read_sound : (c : Control) (r : Result (List (List ℕ)) Code) → IfErr r (λ code. is_unavailable code ≡ false) → IsSound c (read_reply r)
+read_sound : (c : ControlState) (r : Result (List (List ℕ)) Code) → IfErr r (λ code. is_unavailable code ≡ false) → IsSound c (read_reply r)
 read_sound c (Ok messages) h = plain_sound c codes.Ok messages refl
 read_sound c (Err code) h = plain_sound c code _ h
 
@@ -280,7 +280,7 @@ rule_available arbitration.A3 = refl
 rule_available arbitration.A4 = refl
 rule_available arbitration.A5 = refl
 
-arbitration_unless_sound : (o : Option ArbitrationRule) (c : Control) (lane k : ℕ) (update : MasterArbitrationUpdate) → (o ≡ None → cause c.roles lane update ≡ None)
+arbitration_unless_sound : (o : Option ArbitrationRule) (c : ControlState) (lane k : ℕ) (update : MasterArbitrationUpdate) → (o ≡ None → cause c.roles lane update ≡ None)
     → IsSound c (arbitration_unless o c lane k update)
 arbitration_unless_sound (Some rule) c lane k update is = plain_sound c (arbitration_code rule) [] (rule_available rule)
 arbitration_unless_sound None c lane k update is = record {
@@ -297,10 +297,10 @@ by_device : (b : Bool) (o : Option ArbitrationRule) → (if b then o else Some a
 by_device true o h = h
 by_device false o h = absurd (cc)
 
-arbitration_sound : (c : Control) (lane k : ℕ) (update : MasterArbitrationUpdate) → IsSound c (arbitration_unless (if update.device_id == c.device then cause c.roles lane update else Some arbitration.A1) c lane k update)
+arbitration_sound : (c : ControlState) (lane k : ℕ) (update : MasterArbitrationUpdate) → IsSound c (arbitration_unless (if update.device_id == c.device then cause c.roles lane update else Some arbitration.A1) c lane k update)
 arbitration_sound c lane k update = arbitration_unless_sound _ c lane k update (by_device (update.device_id == c.device) (cause c.roles lane update))
 
-unreadable_sound : (c : Control) (method : Method) → IsSound c (unreadable method)
+unreadable_sound : (c : ControlState) (method : Method) → IsSound c (unreadable method)
 unreadable_sound c methods.Write = plain_sound c codes.InvalidArgument _ refl
 unreadable_sound c methods.Read = plain_sound c codes.InvalidArgument _ refl
 unreadable_sound c methods.SetForwardingPipelineConfig = plain_sound c codes.InvalidArgument _ refl
@@ -308,7 +308,7 @@ unreadable_sound c methods.GetForwardingPipelineConfig = plain_sound c codes.Inv
 unreadable_sound c methods.StreamChannel = plain_sound c codes.InvalidArgument [] refl
 unreadable_sound c methods.Capabilities = plain_sound c codes.InvalidArgument _ refl
 
-unserved_sound : (c : Control) (lane : ℕ) → IsSound c (unserved_answer lane)
+unserved_sound : (c : ControlState) (lane : ℕ) → IsSound c (unserved_answer lane)
 unserved_sound c lane = record {
   available = refl;
   short_packet = tt;
@@ -319,7 +319,7 @@ unserved_sound c lane = record {
   few_numbers = omega arith;
 }
 
-packet_sound : (c : Control) (lane : ℕ) (packet : PacketOut) (r : Result (List ℕ) PacketRule) → IfOk r (λ bytes. length bytes ≤ 9216) → IsSound c (packet_reply lane packet r)
+packet_sound : (c : ControlState) (lane : ℕ) (packet : PacketOut) (r : Result (List ℕ) PacketRule) → IfOk r (λ bytes. length bytes ≤ 9216) → IsSound c (packet_reply lane packet r)
 packet_sound c lane packet (Ok bytes) short = record {
   available = refl;
   short_packet = short;
@@ -358,18 +358,18 @@ plane_short (Some plane) packet =
     let bytes = packet_bytes (packet_out_fields plane.config.info) packet in
     unless_by (fills (packet_out_fields plane.config.info) packet.metadata) (unless_long bytes) rules.P3 (long_by (nat_lt 9216 (length bytes)) bytes refl)
 
-result_short : (c : Control) (lane : ℕ) (packet : PacketOut) → IsShort (packet_result c lane packet)
+result_short : (c : ControlState) (lane : ℕ) (packet : PacketOut) → IsShort (packet_result c lane packet)
 unfolding packet_result
 result_short c lane packet = unless_by (is_primary (status_of c.roles lane)) (entering_in c.active packet) rules.P1 (plane_short c.active packet)
 
-stream_sound : (message : Option StreamMessageRequest) (c : Control) (lane k : ℕ) → IsSound c (stream_answer c lane k message)
+stream_sound : (message : Option StreamMessageRequest) (c : ControlState) (lane k : ℕ) → IsSound c (stream_answer c lane k message)
 stream_sound None c lane k = plain_sound c codes.InvalidArgument [] refl
 stream_sound (Some (requests.Arbitration update)) c lane k = arbitration_sound c lane k update
 stream_sound (Some (requests.Packet packet)) c lane k = packet_sound c lane packet _ (result_short c lane packet)
 stream_sound (Some (requests.DigestAck acknowledged)) c lane k = plain_sound c codes.Ok [] refl
 stream_sound (Some (requests.Other other)) c lane k = unserved_sound c lane
 
-leave_sound : (o : Option Session) (c : Control) (lane k : ℕ) → session_in c.roles.sessions lane ≡ o → IsSound c (leave_of o c lane k)
+leave_sound : (o : Option Session) (c : ControlState) (lane k : ℕ) → session_in c.roles.sessions lane ≡ o → IsSound c (leave_of o c lane k)
 leave_sound None c lane k is = plain_sound c codes.Ok [] refl
 leave_sound (Some session) c lane k is = record {
   available = refl;
@@ -381,7 +381,7 @@ leave_sound (Some session) c lane k is = record {
   few_numbers = omega arith;
 }
 
-pub answer_to_sound : (call : Call) (c : Control) (g : Figures) (lane k : ℕ) → IsSound c (answer_to c g lane k call)
+pub answer_to_sound : (call : Call) (c : ControlState) (g : Figures) (lane k : ℕ) → IsSound c (answer_to c g lane k call)
 answer_to_sound (calls.Write request) c g lane k = write_sound _ c lane k request refl (write_available (request.device_id == c.device) (is_of_primary (primary c request.role_id) request.election_id) (is_some (target c)) (is_some (atomicity_of request.atomicity)) (nat_lt 4096 (length request.updates)))
 answer_to_sound (calls.Read request) c g lane k = read_sound c _ (read_available c g request)
 answer_to_sound (calls.Set request) c g lane k = set_sound c lane k request
@@ -391,7 +391,7 @@ answer_to_sound calls.Capabilities c g lane k = plain_sound c codes.Ok _ refl
 answer_to_sound (calls.Unreadable method) c g lane k = unreadable_sound c method
 answer_to_sound calls.Leave c g lane k = leave_sound _ c lane k refl
 
-pub answer_sound : (c : Control) (g : Figures) (lane k : ℕ) (call : LaneCall) → IsSound c (answer c g lane k call)
+pub answer_sound : (c : ControlState) (g : Figures) (lane k : ℕ) (call : LaneCall) → IsSound c (answer c g lane k call)
 unfolding answer
 answer_sound c g lane k call = answer_to_sound (called call) c g lane k
 
@@ -399,7 +399,7 @@ reads_nothing : (r : Result (List (List ℕ)) Code) → (read_reply r).events �
 reads_nothing (Ok messages) = refl
 reads_nothing (Err code) = refl
 
-ignore_in : (call : Call) (c : Control) (g h : Figures) (lane k : ℕ) → (answer_to c g lane k call).events ≡ (answer_to c h lane k call).events
+ignore_in : (call : Call) (c : ControlState) (g h : Figures) (lane k : ℕ) → (answer_to c g lane k call).events ≡ (answer_to c h lane k call).events
 ignore_in (calls.Write request) c g h lane k = refl
 ignore_in (calls.Read request) c g h lane k = reads_nothing _ ∙ sym (reads_nothing _)
 ignore_in (calls.Set request) c g h lane k = refl

@@ -3,12 +3,12 @@ use Rattle.std.proofs.Common.{arith, ◌+◌, ◌≤◌, ◌≡◌, ℕ, false, 
 use Rattle.p4_types.specs.declared.code.Code.{Code}
 use Rattle.plane_spec.specs.Config.{Event}
 use Rattle.plane_spec.specs.Legal.{Legal}
-use Rattle.plane_spec.specs.Planes.{Control, applied}
+use Rattle.plane_spec.specs.Planes.{ControlState, applied}
 use Rattle.switch_spec.specs.Answer.{Answer, plain}
 use Rattle.switch_spec.specs.History.{is_unavailable, steps_of}
 
 -- It is no refusal for memory, a packet that it makes enter has 9,216 bytes at most, and its events are steps that may follow, no more than a list of updates has.
-pub record IsSound (c : Control) (a : Answer) : Type 0 where
+pub record IsSound (c : ControlState) (a : Answer) : Type 0 where
   pub available : is_unavailable a.code ≡ false
   pub short_packet : IfSome a.packet (λ packet. length packet ≤ 9216)
   pub all_steps : length (steps_of a.events) ≡ length a.events
@@ -17,7 +17,7 @@ pub record IsSound (c : Control) (a : Answer) : Type 0 where
   pub few_steps : length (steps_of a.events) ≤ 4096
   pub few_numbers : (applied c a.events).next ≤ c.next + 4096
 
-pub plain_sound : (c : Control) (code : Code) (messages : List (List ℕ)) → is_unavailable code ≡ false → IsSound c (plain code messages)
+pub plain_sound : (c : ControlState) (code : Code) (messages : List (List ℕ)) → is_unavailable code ≡ false → IsSound c (plain code messages)
 plain_sound c code messages available = record {
   available = available;
   short_packet = tt;

@@ -30,7 +30,7 @@ use Rattle.role_arbiter.specs.declared.sessions.Session.{Session}
 use Rattle.role_arbiter.specs.Arbitration.{cause, asked, arbitrated, left}
 use Rattle.role_arbiter.specs.State.{session_in}
 use Rattle.role_arbiter.specs.Telling.{told_at_arbitration, told_at_leave}
-use Rattle.plane_spec.specs.Planes.{Control, target, primary, is_of_primary, outcome, change_applied, outcomes}
+use Rattle.plane_spec.specs.Planes.{ControlState, target, primary, is_of_primary, outcome, change_applied, outcomes}
 use Rattle.plane_spec.specs.Config.{Event}
 use Rattle.switch_spec.specs.Notices.{standing_notices, unserved_notice}
 use Rattle.packet_out.specs.declared.rule.PacketRule.{PacketRule}
@@ -77,7 +77,7 @@ is_atomic (Some atomicities.ContinueOnError) = false
 is_atomic _ = true
 
 -- why a Write is refused whole
-abbrev pub write_refusal : Control → WriteRequest → Option Code
+abbrev pub write_refusal : ControlState → WriteRequest → Option Code
 write_refusal c request =
     if not (request.device_id == c.device) then Some codes.NotFound else
     if not (is_of_primary (primary c request.role_id) request.election_id) then Some codes.PermissionDenied else
@@ -127,12 +127,12 @@ abbrev pub written : Bool → Origin → List (Result Change Cause) → Answer
 written atomic by list = if atomic then all_or_nothing by list else continued by list
 
 -- the same where there is no code to refuse it whole, else that code
-abbrev pub write_unless : Option Code → Control → ℕ → ℕ → WriteRequest → Answer
+abbrev pub write_unless : Option Code → ControlState → ℕ → ℕ → WriteRequest → Answer
 write_unless (Some code) c lane k request = failed code
 write_unless None c lane k request = written (is_atomic (atomicity_of request.atomicity)) (origin lane k request) (outcomes c request.role_id request.updates)
 
 -- what a Write is answered
-abbrev pub write_answer : Control → ℕ → ℕ → WriteRequest → Answer
+abbrev pub write_answer : ControlState → ℕ → ℕ → WriteRequest → Answer
 write_answer c lane k request = write_unless (write_refusal c request) c lane k request
 
 -- a Read's messages, or the code with which it is refused
@@ -157,7 +157,7 @@ unreadable methods.StreamChannel = plain codes.InvalidArgument []
 unreadable _ = failed codes.InvalidArgument
 
 -- a session is made or changed as the update asks for, unless a rule refuses it
-abbrev pub arbitration_unless : Option ArbitrationRule → Control → ℕ → ℕ → MasterArbitrationUpdate → Answer
+abbrev pub arbitration_unless : Option ArbitrationRule → ControlState → ℕ → ℕ → MasterArbitrationUpdate → Answer
 arbitration_unless (Some rule) c lane k update = plain (arbitration_code rule) []
 arbitration_unless None c lane k update =
     let new = asked lane update in
@@ -167,7 +167,7 @@ arbitration_unless None c lane k update =
     }
 
 -- A1 to A5: the device is looked at first
-abbrev pub arbitration_answer : Control → ℕ → ℕ → MasterArbitrationUpdate → Answer
+abbrev pub arbitration_answer : ControlState → ℕ → ℕ → MasterArbitrationUpdate → Answer
 arbitration_answer c lane k update = arbitration_unless (if update.device_id == c.device then cause c.roles lane update else Some arbitration.A1) c lane k update
 
 -- the caller is told that its message is not served
@@ -180,7 +180,7 @@ packet_reply lane packet (Ok bytes) = record (plain codes.Ok []) { packet = Some
 packet_reply lane packet (Err rule) = record (plain codes.Ok []) { notices = packet_notice lane rule packet ∷ [] }
 
 -- A message of the stream channel. An acknowledgement changes nothing.
-abbrev pub stream_answer : Control → ℕ → ℕ → Option StreamMessageRequest → Answer
+abbrev pub stream_answer : ControlState → ℕ → ℕ → Option StreamMessageRequest → Answer
 stream_answer c lane k None = plain codes.InvalidArgument []
 stream_answer c lane k (Some (requests.Arbitration update)) = arbitration_answer c lane k update
 stream_answer c lane k (Some (requests.Packet packet)) = packet_reply lane packet (packet_result c lane packet)
@@ -188,17 +188,17 @@ stream_answer c lane k (Some (requests.DigestAck acknowledged)) = plain codes.Ok
 stream_answer c lane k (Some (requests.Other other)) = unserved_answer lane
 
 -- the end of a stream: a session ends, if the lane has one
-abbrev pub leave_of : Option Session → Control → ℕ → ℕ → Answer
+abbrev pub leave_of : Option Session → ControlState → ℕ → ℕ → Answer
 leave_of None c lane k = plain codes.Ok []
 leave_of (Some session) c lane k =
     record (plain codes.Ok []) { notices = standing_notices c.device (left c.roles lane) session.role (told_at_leave c.roles lane); events = events.Leave lane k ∷ [] }
 
 -- what the end of a lane's stream is answered
-abbrev pub leave_answer : Control → ℕ → ℕ → Answer
+abbrev pub leave_answer : ControlState → ℕ → ℕ → Answer
 leave_answer c lane k = leave_of (session_in c.roles.sessions lane) c lane k
 
 -- By what is asked. The figures are for a Read of counters.
-abbrev pub answer_to : Control → Figures → ℕ → ℕ → Call → Answer
+abbrev pub answer_to : ControlState → Figures → ℕ → ℕ → Call → Answer
 answer_to c g lane k (calls.Write request) = write_answer c lane k request
 answer_to c g lane k (calls.Read request) = read_reply (read_result c g request)
 answer_to c g lane k (calls.Set request) = set_reply (set_result c lane k request)
@@ -209,9 +209,9 @@ answer_to c g lane k (calls.Unreadable method) = unreadable method
 answer_to c g lane k calls.Leave = leave_answer c lane k
 
 -- the answer to the k-th call of a lane, where the counters have these figures
-unfoldable pub answer : Control → Figures → ℕ → ℕ → LaneCall → Answer
+unfoldable pub answer : ControlState → Figures → ℕ → ℕ → LaneCall → Answer
 answer c g lane k call = answer_to c g lane k (called call)
 
 -- The events of a call do not depend on what has been counted.
 abbrev pub EventsIgnoreFigures : Type 0
-EventsIgnoreFigures = (c : Control) (g h : Figures) (lane k : ℕ) (call : LaneCall) → (answer c g lane k call).events ≡ (answer c h lane k call).events
+EventsIgnoreFigures = (c : ControlState) (g h : Figures) (lane k : ℕ) (call : LaneCall) → (answer c g lane k call).events ≡ (answer c h lane k call).events

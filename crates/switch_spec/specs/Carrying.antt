@@ -6,7 +6,7 @@ use Rattle.p4_types.specs.declared.records.Record.{Record}
 use Rattle.p4_types.specs.declared.tape.Who.{Who}
 use Rattle.p4_types.specs.declared.tape.Who.TheVariants as who
 use Rattle.plane_spec.specs.Config.{Event}
-use Rattle.plane_spec.specs.Planes.{Control, opened, applied, after}
+use Rattle.plane_spec.specs.Planes.{ControlState, opened, applied, after}
 use Rattle.switch_spec.specs.Counts.{Arrival, Carried}
 use Rattle.switch_spec.specs.History.{Made, published, steps_of}
 use Rattle.switch_spec.specs.Meaning.{carried}
@@ -68,5 +68,5 @@ Covers lane journal records =
     AllByRecursion (λ x. x.1.entry.reply.steps ≤ x.0.outcome.steps) (zip (carried_on (who.Controller lane) records) (made_with_packet lane journal))
 
 -- the control state at the end of a run
-abbrev pub final : Start → List Made → Control
+abbrev pub final : Start → List Made → ControlState
 final start journal = applied (opened start) (published start journal)

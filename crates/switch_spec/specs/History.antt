@@ -13,7 +13,7 @@ use Rattle.switch_spec.specs.Answer.{Answer, answer}
 use Rattle.switch_spec.specs.declared.calls.LaneCall.{LaneCall}
 use Rattle.switch_spec.specs.Counts.{Figures}
 use Rattle.plane_spec.specs.Config.{Event}
-use Rattle.plane_spec.specs.Planes.{Control, opened, applied}
+use Rattle.plane_spec.specs.Planes.{ControlState, opened, applied}
 
 -- an entry of the journal beside the call that it answers, and what the counters had counted
 pub record Made : Type 0 where
@@ -40,7 +40,7 @@ abbrev pub reply_of : ℕ → Answer → Reply
 reply_of n a = record { code = a.code; messages = a.messages; notices = a.notices; steps = n + length (steps_of a.events); packet = a.packet }
 
 -- the entry of a call that is answered in this state after n steps
-abbrev pub answered : Control → Figures → ℕ → ℕ → ℕ → LaneCall → Entry
+abbrev pub answered : ControlState → Figures → ℕ → ℕ → ℕ → LaneCall → Entry
 answered c g n lane k call =
     let a = answer c g lane k call in
     record { lane = lane; call = k; steps = steps_of a.events; reply = reply_of n a }
@@ -60,22 +60,22 @@ abbrev pub is_refused_for_memory : Made → Bool
 is_refused_for_memory made = is_unavailable made.entry.reply.code
 
 -- what a call made in this state adds to the published list
-abbrev pub own_events : Control → Made → List Event
+abbrev pub own_events : ControlState → Made → List Event
 own_events c made = if is_refused_for_memory made then [] else (answer c made.figures made.entry.lane made.entry.call made.call).events
 
 -- the entry that a call made in this state after n steps has to have
-abbrev pub expected : Control → ℕ → Made → Entry
+abbrev pub expected : ControlState → ℕ → Made → Entry
 expected c n made =
     if is_refused_for_memory made then refused_for_memory n made.entry.lane made.entry.call
     else answered c made.figures n made.entry.lane made.entry.call made.call
 
 -- Each call has its answer in the state that the earlier calls left, or is refused for memory.
-abbrev pub History : Control → ℕ → List Made → Type 0
+abbrev pub History : ControlState → ℕ → List Made → Type 0
 History c n [] = Unit {0}
 History c n (made ∷ later) = (made.entry ≡ expected c n made) × History (applied c (own_events c made)) (n + length made.entry.steps) later
 
 -- what the calls of a journal add to the published list
-abbrev pub journal_events : Control → List Made → List Event
+abbrev pub journal_events : ControlState → List Made → List Event
 journal_events c [] = []
 journal_events c (made ∷ later) = own_events c made ++ journal_events (applied c (own_events c made)) later
 

@@ -11,7 +11,7 @@ use Rattle.p4_types.specs.declared.messages.StreamMessageResponse.TheVariants as
 use Rattle.packet_out.specs.Entering.{packet_out_fields, entering}
 use Rattle.packet_out.specs.declared.rule.PacketRule.{PacketRule}
 use Rattle.packet_out.specs.declared.rule.PacketRule.TheVariants as rules
-use Rattle.plane_spec.specs.Planes.{Control, Plane}
+use Rattle.plane_spec.specs.Planes.{ControlState, Plane}
 use Rattle.role_arbiter.specs.State.{status_of}
 
 -- a session that is told of this status is the primary of its role; a lane without a session is none
@@ -25,7 +25,7 @@ entering_in None packet = Err rules.P2
 entering_in (Some plane) packet = entering (packet_out_fields plane.config.info) packet
 
 -- P1 to P4: the bytes that enter of a lane's packet, or the first rule that it breaks
-unfoldable pub packet_result : Control → ℕ → PacketOut → Result (List ℕ) PacketRule
+unfoldable pub packet_result : ControlState → ℕ → PacketOut → Result (List ℕ) PacketRule
 packet_result c lane packet = if is_primary (status_of c.roles lane) then entering_in c.active packet else Err rules.P1
 
 -- the code of a rule

@@ -25,7 +25,7 @@ use Rattle.p4v1_wire.specs.Rows.{fields_by}
 use Rattle.p4v1_wire.specs.StatusRows.{status_rows}
 use Rattle.plane_spec.specs.Config.{Config, Event, cells_in}
 use Rattle.plane_spec.specs.Entries.{slot_limit}
-use Rattle.plane_spec.specs.Planes.{Control, Plane, target, primary, is_of_primary, scope_in}
+use Rattle.plane_spec.specs.Planes.{ControlState, Plane, target, primary, is_of_primary, scope_in}
 use Rattle.role_arbiter.specs.declared.sessions.Session.{Session}
 use Rattle.switch_spec.specs.declared.refusals.SetRefusal.{SetRefusal}
 use Rattle.switch_spec.specs.declared.refusals.SetRefusal.TheVariants.{Breaks, Fails}
@@ -47,19 +47,19 @@ abbrev pub may_set : Option Session → Uint128 → Bool
 may_set session id = is_of_primary session id && not (is_some (scope_in session))
 
 -- S4 and S5: COMMIT comes without a configuration and asks for a staged plane, every other action comes with one
-abbrev pub action_refusal : Control → PipelineAction → Option ForwardingPipelineConfig → Option Code
+abbrev pub action_refusal : ControlState → PipelineAction → Option ForwardingPipelineConfig → Option Code
 action_refusal c actions.Commit (Some config) = Some codes_of.InvalidArgument
 action_refusal c actions.Commit None = if is_some c.staged then None else Some codes_of.FailedPrecondition
 action_refusal c action (Some config) = None
 action_refusal c action None = Some codes_of.InvalidArgument
 
 -- S3 to S5, by the action that the number stands for
-abbrev pub refusal_by : Option PipelineAction → Control → SetForwardingPipelineConfigRequest → Option Code
+abbrev pub refusal_by : Option PipelineAction → ControlState → SetForwardingPipelineConfigRequest → Option Code
 refusal_by None c request = Some (unserved_action request.action)
 refusal_by (Some action) c request = action_refusal c action request.config
 
 -- S1 to S5: why a pipeline is not set, before its configuration is looked at
-abbrev pub set_refusal : Control → SetForwardingPipelineConfigRequest → Option Code
+abbrev pub set_refusal : ControlState → SetForwardingPipelineConfigRequest → Option Code
 set_refusal c request =
     if not (request.device_id == c.device) then Some codes_of.NotFound else
     if not (may_set (primary c request.role_id) request.election_id) then Some codes_of.PermissionDenied
@@ -85,7 +85,7 @@ makes_plane actions.VerifyAndCommit = true
 makes_plane _ = false
 
 -- S7: the cells of the configuration's counters need more slots than are left
-abbrev pub lacks_slots : Control → PipelineAction → Config → Bool
+abbrev pub lacks_slots : ControlState → PipelineAction → Config → Bool
 lacks_slots c action config = makes_plane action && nat_lt slot_limit (c.next_slot + cells_in config)
 
 -- the events of an action with a configuration
@@ -100,18 +100,18 @@ events_unless true by action config = Err (Fails codes_of.ResourceExhausted)
 events_unless false by action config = Ok (config_events by action config)
 
 -- S6 and S7, or the events
-abbrev pub events_by : Control → Origin → PipelineAction → Result Config ConfigRule → Result (List Event) SetRefusal
+abbrev pub events_by : ControlState → Origin → PipelineAction → Result Config ConfigRule → Result (List Event) SetRefusal
 events_by c by action (Err rule) = Err (Breaks rule)
 events_by c by action (Ok config) = events_unless (lacks_slots c action config) by action config
 
 -- what is done behind S1 to S5; an action without its configuration does not come so far
-abbrev pub set_made : Control → Origin → Option PipelineAction → Option ForwardingPipelineConfig → Result (List Event) SetRefusal
+abbrev pub set_made : ControlState → Origin → Option PipelineAction → Option ForwardingPipelineConfig → Result (List Event) SetRefusal
 set_made c by (Some actions.Commit) config = Ok (events.Commit by contents.Staged ∷ [])
 set_made c by (Some action) (Some config) = events_by c by action (config_meant config)
 set_made c by _ _ = Err (Fails codes_of.InvalidArgument)
 
 -- the same, unless a code refuses it
-abbrev pub set_unless : Option Code → Control → Origin → SetForwardingPipelineConfigRequest → Result (List Event) SetRefusal
+abbrev pub set_unless : Option Code → ControlState → Origin → SetForwardingPipelineConfigRequest → Result (List Event) SetRefusal
 set_unless (Some code) c by request = Err (Fails code)
 set_unless None c by request = set_made c by (pipeline_action_of request.action) request.config
 
@@ -120,7 +120,7 @@ abbrev pub set_origin : ℕ → ℕ → SetForwardingPipelineConfigRequest → O
 set_origin lane k request = record { caller = lane; call = k; role = request.role_id; election_id = request.election_id }
 
 -- the events of a call that sets a pipeline, or why it is refused
-abbrev pub set_result : Control → ℕ → ℕ → SetForwardingPipelineConfigRequest → Result (List Event) SetRefusal
+abbrev pub set_result : ControlState → ℕ → ℕ → SetForwardingPipelineConfigRequest → Result (List Event) SetRefusal
 set_result c lane k request = set_unless (set_refusal c request) c (set_origin lane k request) request
 
 -- a response type by its number
@@ -146,10 +146,10 @@ unfoldable pub get_response_bytes : ResponseType → Option Plane → List ℕ
 get_response_bytes type plane = spelling (fields_by get_response_rows (record { config = shown_in type plane }))
 
 -- the answer by the type that the number stands for
-abbrev pub get_by : Option ResponseType → Control → Result (List ℕ) Code
+abbrev pub get_by : Option ResponseType → ControlState → Result (List ℕ) Code
 get_by None c = Err codes_of.InvalidArgument
 get_by (Some type) c = Ok (get_response_bytes type (target c))
 
 -- the configuration of the target plane, or the code with which the call is refused
-abbrev pub get_result : Control → GetForwardingPipelineConfigRequest → Result (List ℕ) Code
+abbrev pub get_result : ControlState → GetForwardingPipelineConfigRequest → Result (List ℕ) Code
 get_result c request = if request.device_id == c.device then get_by (response_type_of request.response_type) c else Err codes_of.NotFound

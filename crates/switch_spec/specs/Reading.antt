@@ -44,7 +44,7 @@ use Rattle.canon_bytes.specs.ByteString.{canon}
 use Rattle.p4v1_wire.specs.ResponseRows.{read_response_rows}
 use Rattle.p4v1_wire.specs.Rows.{fields_by}
 use Rattle.wire_fields.specs.Spelling.{spelling}
-use Rattle.plane_spec.specs.Planes.{Control, Plane, target, default_entry}
+use Rattle.plane_spec.specs.Planes.{ControlState, Plane, target, default_entry}
 use Rattle.plane_spec.specs.Entries.{same_name}
 use Rattle.plane_spec.specs.Objects.{table_of, action_of, action_profile_of, digest_of}
 use Rattle.switch_spec.specs.Counts.{Figures}
@@ -346,5 +346,5 @@ read_in None g request = Err codes.FailedPrecondition
 read_in (Some plane) g request = read_unless (first_of (map (entity_refusal plane.config.info) request.entities)) g plane request.entities
 
 -- the messages that answer a Read where the counters have these figures, or the code of the first entity asked for that is refused
-unfoldable pub read_result : Control → Figures → ReadRequest → Result (List (List ℕ)) Code
+unfoldable pub read_result : ControlState → Figures → ReadRequest → Result (List (List ℕ)) Code
 read_result c g request = if request.device_id == c.device then read_in (target c) g request else Err codes.NotFound

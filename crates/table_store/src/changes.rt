@@ -10,12 +10,10 @@ use crate::causes::{absence_cause, entry_rows, insert_cause, is_counted};
 use crate::groups::{self, Group};
 use list_types::{NoMemory, Refusal};
 use p4_types::code::Cause;
+use p4_types::events::SLOT_LIMIT;
 use p4_types::info::Table;
 use p4_types::table::{Entry, EntryChange, EntryName, Room};
 use std::alloc::Global;
-
-/// How many slots of counters the switch has.
-const SLOT_LIMIT: u32 = 1_048_576;
 
 fn new_entry(table: &Table, room: Room, change: &EntryChange) -> Result<Entry, NoMemory>
     ensures { IfOk result (λ entry. entry ≡ new_entry table.now room change.now) }

@@ -3,7 +3,7 @@ use Rattle.std.proofs.Common.{◌≡◌, ℕ, zero, suc, ◌+◌, ◌<◌, min, 
 use Rattle.std.proofs.lemmas.Bool.{ltb-true, le-leb}
 use Rattle.p4_types.specs.declared.tape.TapeRecord.{TapeRecord}
 use Rattle.p4_types.specs.declared.tape.TapeRecord.TheVariants.{Call, Packet, Leave, Meet}
-use Rattle.wire_fields.specs.Reading.{◌>>=◌}
+use Rattle.list_types.specs.Results.{◌>>=◌}
 use Rattle.run_spec.specs.Tape.{Lanes}
 use Rattle.run_spec.specs.TapeReading.{number_at, has_called, some_called, called_at, last_call, meet_at, packet_at, end_at}
 use Rattle.tape_spec.specs.Reading.{Flaw, TooMany, or_bad, begins_counted, is_lane, some_lane, low_at, lane_at, call_at, piece_at, leave_at, as_item, as_some, item_at, nothing_after, with_first, items_at}

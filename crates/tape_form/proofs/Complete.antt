@@ -1,6 +1,8 @@
 -- A tape within the limits is read, unless the source fails or memory runs out.
 use Rattle.std.proofs.Common.{◌≡◌, ℕ, zero, suc, ◌≤◌, List, [], ◌∷◌, ◌++◌, length, take, Option, Some, None, Result, Ok, Err, flat_map, refl, sym, ap, subst, ◌∙◌, append_assoc, append-nil, arith, length-append}
 use Rattle.std.proofs.lemmas.List.{take_all}
+use Rattle.list_types.specs.declared.memory.Refusal.{Refusal}
+use Rattle.list_types.specs.declared.memory.Refusal.TheVariants as refusals
 use Rattle.tape_spec.specs.declared.item.TapeItem.{TapeItem}
 use Rattle.tape_spec.specs.Items.{item_bytes, bytes_of, IsTapeOf, Begins}
 use Rattle.run_spec.specs.Tape.{magic}
@@ -15,7 +17,7 @@ use Rattle.tape_form.specs.declared.fault.Ended.TheVariants.{AtEnd, AtFault, AtL
 use Rattle.tape_form.specs.TapeRead.{InLimits, EndsWithin, EndsSo, judged, AnswersTo, IsOutcome, IsReadFrom, IsAnswerToTape}
 
 abbrev Answer : Type 0
-Answer = Result (List TapeItem) TapeFault
+Answer = Result (List TapeItem) (Refusal TapeFault)
 
 -- bytes were taken of a tape within the limits, and rest is left of it
 record IsPartOf (records : List TapeItem) (taken rest : List ℕ) : Type 0 where
@@ -89,10 +91,10 @@ by_outcome records taken rest before now answer part o =
 
 by_answer : (records : List TapeItem) (taken rest : List ℕ) (before now : ℕ) (answer : Answer) → IsPartOf records taken rest → AnswersTo answer taken (Some rest) before now → IsAnswerToTape records answer
 by_answer records taken rest before now (Ok found) part o = by_outcome records taken rest before now (Ok found) part o
-by_answer records taken rest before now (Err faults.NoMemory) part o = tt
-by_answer records taken rest before now (Err faults.Fault) part o = tt
-by_answer records taken rest before now (Err (faults.Bad place)) part o = by_outcome records taken rest before now (Err (faults.Bad place)) part o
-by_answer records taken rest before now (Err faults.TooLong) part o = by_outcome records taken rest before now (Err faults.TooLong) part o
+by_answer records taken rest before now (Err refusals.NoMemory) part o = tt
+by_answer records taken rest before now (Err (refusals.For faults.Fault)) part o = tt
+by_answer records taken rest before now (Err (refusals.For (faults.Bad place))) part o = by_outcome records taken rest before now (Err (refusals.For (faults.Bad place))) part o
+by_answer records taken rest before now (Err (refusals.For faults.TooLong)) part o = by_outcome records taken rest before now (Err (refusals.For faults.TooLong)) part o
 
 from_tape : (records : List TapeItem) (new : Option (List ℕ)) (before now : ℕ) (answer : Answer) → InLimits records → IsReadFrom (Some (bytes_of records)) new before now answer → IsAnswerToTape records answer
 from_tape records None before now answer fits r = absurd r.from.consumed
@@ -101,6 +103,6 @@ from_tape records (Some rest) before now answer fits r =
     by_answer records r.taken rest before now answer
     (record { tape = record { spelled = sym whole; each = fits.each }; count = fits.count; size = subst (λ (w : List ℕ). length w ≤ MAX_TAPE) whole fits.size }) r.answers
 
-pub complete : (old new : Option (List ℕ)) (before now : ℕ) (answer : Result (List TapeItem) TapeFault) → IsReadFrom old new before now answer
+pub complete : (old new : Option (List ℕ)) (before now : ℕ) (answer : Result (List TapeItem) (Refusal TapeFault)) → IsReadFrom old new before now answer
     → (records : List TapeItem) → InLimits records → old ≡ Some (bytes_of records) → IsAnswerToTape records answer
 complete old new before now answer r records fits e = from_tape records new before now answer fits (subst (λ (o : Option (List ℕ)). IsReadFrom o new before now answer) e r)

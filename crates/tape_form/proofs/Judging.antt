@@ -1,6 +1,8 @@
 -- What the answer to bytes says of them.
 use Rattle.std.proofs.Common.{◌≡◌, ℕ, zero, suc, ◌-◌, ◌≤◌, ◌<◌, Bool, true, false, cond, eqb, List, length, Option, Result, Ok, Err, refl, sym, ap, subst, ◌∙◌, ◌⊎◌, arith, inl, inr}
 use Rattle.std.specs.Prelude.{IfOk, OnOk, IsErrOf}
+use Rattle.list_types.specs.declared.memory.Refusal.{Refusal}
+use Rattle.list_types.specs.declared.memory.Refusal.TheVariants as refusals
 use Rattle.tape_spec.specs.declared.item.TapeItem.{TapeItem}
 use Rattle.sw_edge.specs.Counts.{Rose}
 use Rattle.tape_spec.specs.Items.{IsLongestFront}
@@ -39,7 +41,7 @@ flaw_within view bytes (Err (found.TooMany l)) h left e = absurd cc
 -- ---- what each answer comes from
 
 abbrev Answer : Type 0
-Answer = Result (List TapeItem) TapeFault
+Answer = Result (List TapeItem) (Refusal TapeFault)
 
 whole_ok : (records found : List TapeItem) (ended : Ended) → when_whole records ended ≡ Ok found → (records ≡ found) × (ended ≡ AtEnd)
 whole_ok records found AtEnd e = (cc, refl)
@@ -51,33 +53,33 @@ short_ok taken found AtEnd e = absurd cc
 short_ok taken found AtFault e = absurd cc
 short_ok taken found AtLimit e = absurd cc
 
-abbrev fault : TapeFault → Answer
+abbrev fault : Refusal TapeFault → Answer
 fault f = Err f
 
 abbrev good : List TapeItem → Answer
 good records = Ok records
 
-tells : {f : TapeFault} {records : List TapeItem} → fault f ≡ good records → ⊥
+tells : {f : Refusal TapeFault} {records : List TapeItem} → fault f ≡ good records → ⊥
 tells e = absurd cc
 
-bad_or_fault : {place : ℕ} → fault (faults.Bad place) ≡ fault faults.Fault → ⊥
+bad_or_fault : {place : ℕ} → fault (refusals.For (faults.Bad place)) ≡ fault (refusals.For faults.Fault) → ⊥
 bad_or_fault e = absurd cc
 
-long_or_fault : fault faults.TooLong ≡ fault faults.Fault → ⊥
+long_or_fault : fault (refusals.For faults.TooLong) ≡ fault (refusals.For faults.Fault) → ⊥
 long_or_fault e = absurd cc
 
-bad_or_long : {place : ℕ} → fault (faults.Bad place) ≡ fault faults.TooLong → ⊥
+bad_or_long : {place : ℕ} → fault (refusals.For (faults.Bad place)) ≡ fault (refusals.For faults.TooLong) → ⊥
 bad_or_long e = absurd cc
 
-one_place : (a b : ℕ) → fault (faults.Bad a) ≡ fault (faults.Bad b) → a ≡ b
+one_place : (a b : ℕ) → fault (refusals.For (faults.Bad a)) ≡ fault (refusals.For (faults.Bad b)) → a ≡ b
 one_place a b e = cc
 
-at_limit : (place : ℕ) (t : Bool) → eqb place MAX_TAPE ≡ t → (when_bad place AtLimit ≡ Err (faults.Bad place)) ⊎ ((when_bad place AtLimit ≡ Err faults.TooLong) × (AtLimit ≡ AtLimit))
-at_limit place true e = inr (ap (λ (t : Bool). cond t (fault faults.TooLong) (fault (faults.Bad place))) e, refl)
-at_limit place false e = inl (ap (λ (t : Bool). cond t (fault faults.TooLong) (fault (faults.Bad place))) e)
+at_limit : (place : ℕ) (t : Bool) → eqb place MAX_TAPE ≡ t → (when_bad place AtLimit ≡ Err (refusals.For (faults.Bad place))) ⊎ ((when_bad place AtLimit ≡ Err (refusals.For faults.TooLong)) × (AtLimit ≡ AtLimit))
+at_limit place true e = inr (ap (λ (t : Bool). cond t (fault (refusals.For faults.TooLong)) (fault (refusals.For (faults.Bad place)))) e, refl)
+at_limit place false e = inl (ap (λ (t : Bool). cond t (fault (refusals.For faults.TooLong)) (fault (refusals.For (faults.Bad place)))) e)
 
 -- a bad byte is answered by its place, or by the limit in its place
-bad_is : (place : ℕ) (ended : Ended) → (when_bad place ended ≡ Err (faults.Bad place)) ⊎ ((when_bad place ended ≡ Err faults.TooLong) × (ended ≡ AtLimit))
+bad_is : (place : ℕ) (ended : Ended) → (when_bad place ended ≡ Err (refusals.For (faults.Bad place))) ⊎ ((when_bad place ended ≡ Err (refusals.For faults.TooLong)) × (ended ≡ AtLimit))
 bad_is place AtEnd = inl refl
 bad_is place AtFault = inl refl
 bad_is place AtLimit = at_limit place (eqb place MAX_TAPE) refl
@@ -89,7 +91,7 @@ judged_ok taken ended (Err (Bad zero)) found e = absurd (short_ok taken found en
 judged_ok taken ended (Err (Bad (suc left))) found e =
     elim (bad_is (taken - suc left) ended) [ inl b ↦ absurd (tells (sym b ∙ e)) | inr b ↦ absurd (tells (sym b.0 ∙ e)) ]
 
-judged_fault : (taken : ℕ) (ended : Ended) (read : Result (List TapeItem) Flaw) → judged taken ended read ≡ Err faults.Fault → ended ≡ AtFault
+judged_fault : (taken : ℕ) (ended : Ended) (read : Result (List TapeItem) Flaw) → judged taken ended read ≡ Err (refusals.For faults.Fault) → ended ≡ AtFault
 judged_fault taken AtEnd (Ok records) e = absurd cc
 judged_fault taken AtFault (Ok records) e = refl
 judged_fault taken AtLimit (Ok records) e = absurd cc
@@ -100,7 +102,7 @@ judged_fault taken AtLimit (Err (Bad zero)) e = absurd cc
 judged_fault taken ended (Err (Bad (suc left))) e =
     elim (bad_is (taken - suc left) ended) [ inl b ↦ absurd (bad_or_fault (sym b ∙ e)) | inr b ↦ absurd (long_or_fault (sym b.0 ∙ e)) ]
 
-judged_long : (taken : ℕ) (ended : Ended) (read : Result (List TapeItem) Flaw) → judged taken ended read ≡ Err faults.TooLong → (ended ≡ AtLimit) ⊎ ((left : ℕ) × (read ≡ Err (TooMany left)))
+judged_long : (taken : ℕ) (ended : Ended) (read : Result (List TapeItem) Flaw) → judged taken ended read ≡ Err (refusals.For faults.TooLong) → (ended ≡ AtLimit) ⊎ ((left : ℕ) × (read ≡ Err (TooMany left)))
 judged_long taken AtEnd (Ok records) e = absurd cc
 judged_long taken AtFault (Ok records) e = absurd cc
 judged_long taken AtLimit (Ok records) e = inl refl
@@ -133,7 +135,7 @@ answered view bytes AtLimit (Err (found.Bad zero)) h = ap (judged (length bytes)
 answered view bytes ended (Err (found.Bad (suc left))) h = due_bad (length bytes - suc left) ended (outcome bytes ended) (ap (judged (length bytes) ended) h)
 
 -- the answer to what was read is the outcome, or want of memory in the place of records
-pub is_due : {X E : Type 0} (view : X → List TapeItem) (bytes : List ℕ) (ended : Ended) (read : Result (Result X E) Found) (answer : Result (List TapeItem) TapeFault) → GivesAll view read (tape_at MAX_RECORDS bytes)
+pub is_due : {X E : Type 0} (view : X → List TapeItem) (bytes : List ℕ) (ended : Ended) (read : Result (Result X E) Found) (answer : Result (List TapeItem) (Refusal TapeFault)) → GivesAll view read (tape_at MAX_RECORDS bytes)
     → answer_of view (length bytes) ended read ≡ answer → IsDue answer (outcome bytes ended)
 is_due view bytes ended read answer h e = subst (λ (a : Answer). IsDue a (outcome bytes ended)) e (answered view bytes ended read h)
 
@@ -144,7 +146,7 @@ record FromBad (taken : ℕ) (ended : Ended) (read : Result (List TapeItem) Flaw
   at : taken - left ≡ place
   shown : (0 < left) ⊎ (ended ≡ AtEnd)
 
-judged_bad : (taken : ℕ) (ended : Ended) (read : Result (List TapeItem) Flaw) (place : ℕ) → judged taken ended read ≡ Err (faults.Bad place) → FromBad taken ended read place
+judged_bad : (taken : ℕ) (ended : Ended) (read : Result (List TapeItem) Flaw) (place : ℕ) → judged taken ended read ≡ Err (refusals.For (faults.Bad place)) → FromBad taken ended read place
 judged_bad taken AtEnd (Ok records) place e = absurd cc
 judged_bad taken AtFault (Ok records) place e = absurd cc
 judged_bad taken AtLimit (Ok records) place e = absurd cc
@@ -177,19 +179,19 @@ read_tape old new before now records r =
       count = t.1;
     }
 
-pub whole_tape : (old new : Option (List ℕ)) (before now : ℕ) (answer : Result (List TapeItem) TapeFault) → IsReadFrom old new before now answer → IfOk answer (λ records. IsWholeTape old new records)
+pub whole_tape : (old new : Option (List ℕ)) (before now : ℕ) (answer : Result (List TapeItem) (Refusal TapeFault)) → IsReadFrom old new before now answer → IfOk answer (λ records. IsWholeTape old new records)
 whole_tape old new before now (Ok records) r = read_tape old new before now records r
 whole_tape old new before now (Err _) r = tt
 
 -- a source of which a tape was read has not failed
-pub whole_sound : (old new : Option (List ℕ)) (before now : ℕ) (answer : Result (List TapeItem) TapeFault) → IsReadFrom old new before now answer → OnOk answer (now ≡ before)
+pub whole_sound : (old new : Option (List ℕ)) (before now : ℕ) (answer : Result (List TapeItem) (Refusal TapeFault)) → IsReadFrom old new before now answer → OnOk answer (now ≡ before)
 whole_sound old new before now (Ok records) r =
     let o = r.answers in
     let j = judged_ok (length r.taken) o.ended (tape_at MAX_RECORDS r.taken) records o.same in
     (soundly_at_end new before now o.ended j.1 o.soundly).1
 whole_sound old new before now (Err _) r = tt
 
-pub bad_at : (old new : Option (List ℕ)) (before now place : ℕ) → IsReadFrom old new before now (Err (faults.Bad place)) → IsBadAt old new place
+pub bad_at : (old new : Option (List ℕ)) (before now place : ℕ) → IsReadFrom old new before now (Err (refusals.For (faults.Bad place))) → IsBadAt old new place
 bad_at old new before now place r =
     let o = r.answers in
     let b = judged_bad (length r.taken) o.ended (tape_at MAX_RECORDS r.taken) place o.same in
@@ -202,7 +204,7 @@ bad_at old new before now place r =
       shown = elim b.shown [ inl pos ↦ inl (omega (arith, b.at, x.1)) | inr end ↦ inr (subst (λ (n : Ended). EndsSo n new before now) end o.so) ];
     }
 
-pub too_long : (old new : Option (List ℕ)) (before now : ℕ) → IsReadFrom old new before now (Err faults.TooLong) → IsTooLong old new
+pub too_long : (old new : Option (List ℕ)) (before now : ℕ) → IsReadFrom old new before now (Err (refusals.For faults.TooLong)) → IsTooLong old new
 too_long old new before now r =
     let o = r.answers in
     record {
@@ -214,7 +216,7 @@ too_long old new before now r =
       ];
     }
 
-pub fault_rose : (old new : Option (List ℕ)) (before now : ℕ) → IsReadFrom old new before now (Err faults.Fault) → Rose before now
+pub fault_rose : (old new : Option (List ℕ)) (before now : ℕ) → IsReadFrom old new before now (Err (refusals.For faults.Fault)) → Rose before now
 fault_rose old new before now r =
     let o = r.answers in
     subst (λ (n : Ended). EndsSo n new before now) (judged_fault (length r.taken) o.ended (tape_at MAX_RECORDS r.taken) o.same) o.so
@@ -224,7 +226,7 @@ whole_within_limit taken new before now records o =
     let j = judged_ok (length taken) o.ended (tape_at MAX_RECORDS taken) records o.same in
     ((soundly_at_end new before now o.ended j.1 o.soundly).1, subst (λ (n : Ended). EndsWithin n taken) j.1 o.within)
 
-pub unfinished : (old new : Option (List ℕ)) (before now : ℕ) → IsReadFrom old new before now (Err faults.NoMemory) → IsUnfinished old new before now
+pub unfinished : (old new : Option (List ℕ)) (before now : ℕ) → IsReadFrom old new before now (Err refusals.NoMemory) → IsUnfinished old new before now
 unfinished old new before now r =
     elim r.answers [
       | inl b ↦ record { taken = r.taken; consumed = r.from.consumed; within = b.within; sound = b.sound }
@@ -232,21 +234,21 @@ unfinished old new before now r =
     ]
 
 -- the same, of any answer
-pub if_no_memory : (old new : Option (List ℕ)) (before now : ℕ) (answer : Result (List TapeItem) TapeFault) → IsReadFrom old new before now answer → IsErrOf answer faults.NoMemory → IsUnfinished old new before now
+pub if_no_memory : (old new : Option (List ℕ)) (before now : ℕ) (answer : Result (List TapeItem) (Refusal TapeFault)) → IsReadFrom old new before now answer → IsErrOf answer refusals.NoMemory → IsUnfinished old new before now
 if_no_memory old new before now answer r e = unfinished old new before now (subst (IsReadFrom old new before now) e r)
 
-pub if_bad : (old new : Option (List ℕ)) (before now : ℕ) (answer : Result (List TapeItem) TapeFault) → IsReadFrom old new before now answer → (place : ℕ) → IsErrOf answer (faults.Bad place) → IsBadAt old new place
+pub if_bad : (old new : Option (List ℕ)) (before now : ℕ) (answer : Result (List TapeItem) (Refusal TapeFault)) → IsReadFrom old new before now answer → (place : ℕ) → IsErrOf answer (refusals.For (faults.Bad place)) → IsBadAt old new place
 if_bad old new before now answer r place e = bad_at old new before now place (subst (IsReadFrom old new before now) e r)
 
-pub if_too_long : (old new : Option (List ℕ)) (before now : ℕ) (answer : Result (List TapeItem) TapeFault) → IsReadFrom old new before now answer → IsErrOf answer faults.TooLong → IsTooLong old new
+pub if_too_long : (old new : Option (List ℕ)) (before now : ℕ) (answer : Result (List TapeItem) (Refusal TapeFault)) → IsReadFrom old new before now answer → IsErrOf answer (refusals.For faults.TooLong) → IsTooLong old new
 if_too_long old new before now answer r e = too_long old new before now (subst (IsReadFrom old new before now) e r)
 
-pub if_fault : (old new : Option (List ℕ)) (before now : ℕ) (answer : Result (List TapeItem) TapeFault) → IsReadFrom old new before now answer → IsErrOf answer faults.Fault → Rose before now
+pub if_fault : (old new : Option (List ℕ)) (before now : ℕ) (answer : Result (List TapeItem) (Refusal TapeFault)) → IsReadFrom old new before now answer → IsErrOf answer (refusals.For faults.Fault) → Rose before now
 if_fault old new before now answer r e = fault_rose old new before now (subst (IsReadFrom old new before now) e r)
 
 -- want of memory in the place of a tape that was read whole
-pub hides_nothing : (old new : Option (List ℕ)) (before now ends_before ends_now : ℕ) (taken : List ℕ) (ended : Ended) (answer : Result (List TapeItem) TapeFault) → IsTakenFrom old new taken → EndsSo ended new before now → EndsSoundly ended new before now → EndsWithin ended taken
-    → IsDue answer (outcome taken ended) → IsErrOf answer faults.NoMemory → HidesNothing old new ends_before ends_now
+pub hides_nothing : (old new : Option (List ℕ)) (before now ends_before ends_now : ℕ) (taken : List ℕ) (ended : Ended) (answer : Result (List TapeItem) (Refusal TapeFault)) → IsTakenFrom old new taken → EndsSo ended new before now → EndsSoundly ended new before now → EndsWithin ended taken
+    → IsDue answer (outcome taken ended) → IsErrOf answer refusals.NoMemory → HidesNothing old new ends_before ends_now
 hides_nothing old new before now ends_before ends_now taken ended answer from so soundly within due e =
-    let d : (items : List TapeItem) × (outcome taken ended ≡ Ok items) = subst (λ (a : Result (List TapeItem) TapeFault). IsDue a (outcome taken ended)) e due in
+    let d : (items : List TapeItem) × (outcome taken ended ≡ Ok items) = subst (λ (a : Result (List TapeItem) (Refusal TapeFault)). IsDue a (outcome taken ended)) e due in
     inr (d.0, read_tape old new before now d.0 (record { taken = taken; from = from; answers = record { ended = ended; so = so; soundly = soundly; within = within; same = d.1 } }))

@@ -2,7 +2,7 @@
 use Rattle.std.proofs.Common.{◌≡◌, ℕ, suc, ◌-◌, ◌+◌, ◌<◌, List, [], ◌∷◌, ◌++◌, length, get_or, drop, Option, Some, None, Result, Ok, Err, refl, sym, ap, ◌∙◌, append_assoc, append-nil, arith}
 use Rattle.std.proofs.lemmas.List.{nil_from_length, drop_more}
 use Rattle.tape_spec.specs.declared.item.TapeItem.{TapeItem}
-use Rattle.wire_fields.specs.Reading.{◌>>=◌}
+use Rattle.list_types.specs.Results.{◌>>=◌}
 use Rattle.tape_spec.specs.Items.{ItemLanes, no_item_lanes, lanes_behind}
 use Rattle.run_spec.specs.TapeReading.{text_at}
 use Rattle.tape_spec.specs.Reading.{Flaw, Bad, or_bad, item_at, nothing_after, with_first, items_at}

@@ -3,7 +3,7 @@ use Rattle.std.specs.Prelude.{◌≡◌, ℕ, List, [], ◌∷◌, ◌++◌, Opt
 use Rattle.tape_spec.specs.declared.item.TapeItem.{TapeItem}
 use Rattle.p4_types.specs.declared.tape.TapeRecord.{TapeRecord}
 use Rattle.p4_types.specs.declared.tape.TapeRecord.TheVariants.{Call, Packet, Leave, Meet}
-use Rattle.wire_fields.specs.Reading.{◌>>=◌}
+use Rattle.list_types.specs.Results.{◌>>=◌}
 use Rattle.tape_spec.specs.Items.{ItemLanes}
 use Rattle.run_spec.specs.TapeReading.{packet_at, meet_at, end_at}
 use Rattle.tape_spec.specs.Reading.{Flaw, Bad, TooMany, call_at, piece_at, leave_at, as_item, as_some, nothing_after}

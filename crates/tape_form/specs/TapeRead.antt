@@ -1,5 +1,7 @@
 -- What a tape is that was read from a source, and which answer comes first (this project's profile).
 use Rattle.std.specs.Prelude.{◌≡◌, ℕ, zero, suc, ◌-◌, ◌<◌, ◌≤◌, ◌==◌, if◌then◌else◌, ◌⊎◌, List, length, Option, Result, Ok, Err, ⊤}
+use Rattle.list_types.specs.declared.memory.Refusal.{Refusal}
+use Rattle.list_types.specs.declared.memory.Refusal.TheVariants as refusals
 use Rattle.tape_spec.specs.declared.item.TapeItem.{TapeItem}
 use Rattle.sw_edge.specs.Counts.{Rose}
 use Rattle.sw_edge.specs.Told.{Consumes, IsAtEnd}
@@ -21,59 +23,59 @@ pub record InLimits (records : List TapeItem) : Type 0 where
   pub size : length (bytes_of records) ≤ MAX_TAPE
 
 -- the answer where the bytes that were taken are a tape
-abbrev pub when_whole : List TapeItem → Ended → Result (List TapeItem) TapeFault
+abbrev pub when_whole : List TapeItem → Ended → Result (List TapeItem) (Refusal TapeFault)
 when_whole records AtEnd = Ok records
-when_whole records AtFault = Err faults.Fault
-when_whole records AtLimit = Err faults.TooLong
+when_whole records AtFault = Err (refusals.For faults.Fault)
+when_whole records AtLimit = Err (refusals.For faults.TooLong)
 
 -- the answer where they begin a tape, but are none
-abbrev pub when_short : ℕ → Ended → Result (List TapeItem) TapeFault
-when_short taken AtEnd = Err (faults.Bad taken)
-when_short taken AtFault = Err faults.Fault
-when_short taken AtLimit = Err faults.TooLong
+abbrev pub when_short : ℕ → Ended → Result (List TapeItem) (Refusal TapeFault)
+when_short taken AtEnd = Err (refusals.For (faults.Bad taken))
+when_short taken AtFault = Err (refusals.For faults.Fault)
+when_short taken AtLimit = Err (refusals.For faults.TooLong)
 
 -- the answer to a bad byte; where the limit of bytes has its place, the limit is answered
-abbrev pub when_bad : ℕ → Ended → Result (List TapeItem) TapeFault
-when_bad place AtEnd = Err (faults.Bad place)
-when_bad place AtFault = Err (faults.Bad place)
-when_bad place AtLimit = if place == MAX_TAPE then Err faults.TooLong else Err (faults.Bad place)
+abbrev pub when_bad : ℕ → Ended → Result (List TapeItem) (Refusal TapeFault)
+when_bad place AtEnd = Err (refusals.For (faults.Bad place))
+when_bad place AtFault = Err (refusals.For (faults.Bad place))
+when_bad place AtLimit = if place == MAX_TAPE then Err (refusals.For faults.TooLong) else Err (refusals.For (faults.Bad place))
 
 -- the answer to what so many bytes were read as
-abbrev pub judged : ℕ → Ended → Result (List TapeItem) Flaw → Result (List TapeItem) TapeFault
+abbrev pub judged : ℕ → Ended → Result (List TapeItem) Flaw → Result (List TapeItem) (Refusal TapeFault)
 judged taken ended (Ok records) = when_whole records ended
-judged taken ended (Err (TooMany left)) = Err faults.TooLong
+judged taken ended (Err (TooMany left)) = Err (refusals.For faults.TooLong)
 judged taken ended (Err (Bad zero)) = when_short taken ended
 judged taken ended (Err (Bad (suc left))) = when_bad (taken - suc left) ended
 
 -- The answer to the bytes that were taken: the first of a bad byte, a limit and a fault in the order of the bytes.
 -- The limit of bytes has the place behind as many, the limit of records that before the record past it.
-abbrev pub outcome : List ℕ → Ended → Result (List TapeItem) TapeFault
+abbrev pub outcome : List ℕ → Ended → Result (List TapeItem) (Refusal TapeFault)
 outcome taken ended = judged (length taken) ended (tape_at MAX_RECORDS taken)
 
 -- the answer where the bytes that were taken are a tape, but there was no memory for its records
-abbrev pub when_unkept : Ended → Result (List TapeItem) TapeFault
-when_unkept AtEnd = Err faults.NoMemory
-when_unkept AtFault = Err faults.Fault
-when_unkept AtLimit = Err faults.TooLong
+abbrev pub when_unkept : Ended → Result (List TapeItem) (Refusal TapeFault)
+when_unkept AtEnd = Err refusals.NoMemory
+when_unkept AtFault = Err (refusals.For faults.Fault)
+when_unkept AtLimit = Err (refusals.For faults.TooLong)
 
 -- the answer where they are a tape, whose records are kept, seen by view, or not
-abbrev pub kept_answer : {X E : Type 0} → (X → List TapeItem) → Ended → Result X E → Result (List TapeItem) TapeFault
+abbrev pub kept_answer : {X E : Type 0} → (X → List TapeItem) → Ended → Result X E → Result (List TapeItem) (Refusal TapeFault)
 kept_answer view ended (Ok x) = when_whole (view x) ended
 kept_answer view ended (Err e) = when_unkept ended
 
 -- the answer to what so many bytes were read as, and to whether records are kept
-abbrev pub answer_of : {X E : Type 0} → (X → List TapeItem) → ℕ → Ended → Result (Result X E) Found → Result (List TapeItem) TapeFault
+abbrev pub answer_of : {X E : Type 0} → (X → List TapeItem) → ℕ → Ended → Result (Result X E) Found → Result (List TapeItem) (Refusal TapeFault)
 answer_of view taken ended (Ok kept) = kept_answer view ended kept
 answer_of view taken ended (Err (found.Bad left)) = judged taken ended (Err (Bad left))
 answer_of view taken ended (Err (found.TooMany left)) = judged taken ended (Err (TooMany left))
 
 -- the answer is the one that is due, but want of memory may come in the place of records, and of nothing else
-abbrev pub IsDue : Result (List TapeItem) TapeFault → Result (List TapeItem) TapeFault → Type 0
+abbrev pub IsDue : Result (List TapeItem) (Refusal TapeFault) → Result (List TapeItem) (Refusal TapeFault) → Type 0
 IsDue (Ok records) due = due ≡ Ok records
-IsDue (Err faults.NoMemory) due = (records : List TapeItem) × (due ≡ Ok records)
-IsDue (Err (faults.Bad place)) due = due ≡ Err (faults.Bad place)
-IsDue (Err faults.TooLong) due = due ≡ Err faults.TooLong
-IsDue (Err faults.Fault) due = due ≡ Err faults.Fault
+IsDue (Err refusals.NoMemory) due = (records : List TapeItem) × (due ≡ Ok records)
+IsDue (Err (refusals.For (faults.Bad place))) due = due ≡ Err (refusals.For (faults.Bad place))
+IsDue (Err (refusals.For faults.TooLong)) due = due ≡ Err (refusals.For faults.TooLong)
+IsDue (Err (refusals.For faults.Fault)) due = due ≡ Err (refusals.For faults.Fault)
 
 -- no more bytes were taken than the end of the taking allows
 abbrev pub EndsWithin : Ended → List ℕ → Type 0
@@ -100,7 +102,7 @@ EndsMet AtFault before now = now ≡ before
 EndsMet AtLimit before now = now ≡ before
 
 -- the answer is the outcome of what was taken, as the taking ended
-pub record IsOutcome (answer : Result (List TapeItem) TapeFault) (taken : List ℕ) (new : Option (List ℕ)) (before now : ℕ) : Type 0 where
+pub record IsOutcome (answer : Result (List TapeItem) (Refusal TapeFault)) (taken : List ℕ) (new : Option (List ℕ)) (before now : ℕ) : Type 0 where
   pub ended : Ended
   pub so : EndsSo ended new before now
   pub soundly : EndsSoundly ended new before now
@@ -123,15 +125,15 @@ abbrev pub WantsMemory : List ℕ → Option (List ℕ) → ℕ → ℕ → Type
 WantsMemory taken new before now = BreaksOff taken before now ⊎ ((records : List TapeItem) × IsOutcome (Ok records) taken new before now)
 
 -- the answer is the outcome of what was taken, or it is for want of memory
-abbrev pub AnswersTo : Result (List TapeItem) TapeFault → List ℕ → Option (List ℕ) → ℕ → ℕ → Type 0
+abbrev pub AnswersTo : Result (List TapeItem) (Refusal TapeFault) → List ℕ → Option (List ℕ) → ℕ → ℕ → Type 0
 AnswersTo (Ok records) taken new before now = IsOutcome (Ok records) taken new before now
-AnswersTo (Err faults.NoMemory) taken new before now = WantsMemory taken new before now
-AnswersTo (Err (faults.Bad place)) taken new before now = IsOutcome (Err (faults.Bad place)) taken new before now
-AnswersTo (Err faults.TooLong) taken new before now = IsOutcome (Err faults.TooLong) taken new before now
-AnswersTo (Err faults.Fault) taken new before now = IsOutcome (Err faults.Fault) taken new before now
+AnswersTo (Err refusals.NoMemory) taken new before now = WantsMemory taken new before now
+AnswersTo (Err (refusals.For (faults.Bad place))) taken new before now = IsOutcome (Err (refusals.For (faults.Bad place))) taken new before now
+AnswersTo (Err (refusals.For faults.TooLong)) taken new before now = IsOutcome (Err (refusals.For faults.TooLong)) taken new before now
+AnswersTo (Err (refusals.For faults.Fault)) taken new before now = IsOutcome (Err (refusals.For faults.Fault)) taken new before now
 
 -- Bytes were taken from the source, no more than one behind the limit, and the answer is their outcome, or for want of memory.
-pub record IsReadFrom (old new : Option (List ℕ)) (before now : ℕ) (answer : Result (List TapeItem) TapeFault) : Type 0 where
+pub record IsReadFrom (old new : Option (List ℕ)) (before now : ℕ) (answer : Result (List TapeItem) (Refusal TapeFault)) : Type 0 where
   pub taken : List ℕ
   pub from : IsTakenFrom old new taken
   pub answers : AnswersTo answer taken new before now
@@ -172,9 +174,9 @@ pub record IsTooLong (old new : Option (List ℕ)) : Type 0 where
   pub past : (MAX_TAPE < length taken) ⊎ ((left : ℕ) × GoesBeyond MAX_RECORDS taken left)
 
 -- the answer to a source that gives the tape of these records and nothing else: they, a fault, or want of memory
-abbrev pub IsAnswerToTape : List TapeItem → Result (List TapeItem) TapeFault → Type 0
+abbrev pub IsAnswerToTape : List TapeItem → Result (List TapeItem) (Refusal TapeFault) → Type 0
 IsAnswerToTape records (Ok found) = found ≡ records
-IsAnswerToTape records (Err faults.NoMemory) = ⊤
-IsAnswerToTape records (Err faults.Fault) = ⊤
-IsAnswerToTape records (Err (faults.Bad place)) = ⊥
-IsAnswerToTape records (Err faults.TooLong) = ⊥
+IsAnswerToTape records (Err refusals.NoMemory) = ⊤
+IsAnswerToTape records (Err (refusals.For faults.Fault)) = ⊤
+IsAnswerToTape records (Err (refusals.For (faults.Bad place))) = ⊥
+IsAnswerToTape records (Err (refusals.For faults.TooLong)) = ⊥

@@ -1,8 +1,4 @@
 // Why no tape was read, and how the reading of a source ended.
-ghost use Rattle.std.specs.Prelude.{◌≡◌};
-ghost use Rattle.tape_form.specs.declared.fault.TapeFault.TheVariants.{NoMemory};
-
-use std::alloc::{AllocError, AllocFailed};
 
 /// Why no tape was read: the first of these in the order of the bytes.
 #[derive(Clone, Copy)]
@@ -13,15 +9,6 @@ pub enum TapeFault {
     TooLong,
     /// The source failed.
     Fault,
-    NoMemory,
-}
-
-impl From<AllocError> for TapeFault {
-    ghost from_gives = { λ _ e. e ≡ NoMemory };
-
-    fn from(_: AllocError) -> TapeFault {
-        TapeFault::NoMemory
-    }
 }
 
 /// How the reading of a source ended: its end was met, it failed, or more bytes came than a tape may have.

@@ -9,7 +9,7 @@ ghost use Rattle.tape_form.specs.TapeRead.{InLimits, outcome, kept_answer, when_
 use crate::fault::{Ended, TapeFault};
 use crate::limits::{MAX_RECORDS, MAX_TAPE};
 use crate::parse::{Flaw, tape_at};
-use list_types::{List, NoMemory};
+use list_types::{List, NoMemory, Refusal};
 use p4_types::tape::TapeRecord;
 use std::alloc::{AllocError, Global};
 use std::marker::Model;
@@ -40,15 +40,15 @@ impl Model for Tape {
 impl Tape {
     /// Reads a tape from a source, up to its end, or one byte more than a tape may have. Answered is
     /// the first of a bad byte, a limit and a fault, in the order of the bytes.
-    pub fn read<S: Source>(alloc: Global, source: &mut S) -> Result<Tape, TapeFault>
+    pub fn read<S: Source>(alloc: Global, source: &mut S) -> Result<Tape, Refusal<TapeFault>>
         ensures exact { IsReadFrom (S.left source.old) (S.left source.new) (S.faults source.old) (S.faults source.new) result }
         ensures tape { IfOk result (λ tape. IsWholeTape (S.left source.old) (S.left source.new) tape) }
-        ensures bad { (place : ℕ) → IsErrOf result (TapeFault.Bad place) → IsBadAt (S.left source.old) (S.left source.new) place }
-        ensures too_long { IsErrOf result TapeFault.TooLong → IsTooLong (S.left source.old) (S.left source.new) }
+        ensures bad { (place : ℕ) → IsErrOf result (Refusal.For (TapeFault.Bad place)) → IsBadAt (S.left source.old) (S.left source.new) place }
+        ensures too_long { IsErrOf result (Refusal.For TapeFault.TooLong) → IsTooLong (S.left source.old) (S.left source.new) }
         ensures sound { OnOk result (S.faults source.new ≡ S.faults source.old) }
-        ensures no_memory { IsErrOf result TapeFault.NoMemory → IsUnfinished (S.left source.old) (S.left source.new) (S.faults source.old) (S.faults source.new) }
-        ensures hides_nothing { IsErrOf result TapeFault.NoMemory → HidesNothing (S.left source.old) (S.left source.new) (S.ends source.old) (S.ends source.new) }
-        ensures fault { HasCause (S.faults source.old) (S.faults source.new) (IsErrOf result TapeFault.Fault) }
+        ensures no_memory { IsErrOf result Refusal.NoMemory → IsUnfinished (S.left source.old) (S.left source.new) (S.faults source.old) (S.faults source.new) }
+        ensures hides_nothing { IsErrOf result Refusal.NoMemory → HidesNothing (S.left source.old) (S.left source.new) (S.ends source.old) (S.ends source.new) }
+        ensures fault { HasCause (S.faults source.old) (S.faults source.new) (IsErrOf result (Refusal.For TapeFault.Fault)) }
         ensures complete { (records : List TapeItem) → InLimits records → S.left source.old ≡ Some (bytes_of records) → IsAnswerToTape records result }
     {
         read_from(alloc, source)
@@ -134,35 +134,35 @@ pub fn take_bytes<S: Source>(alloc: Global, source: &mut S) -> Result<(Vec<u8>, 
 }
 
 /// The answer where the bytes are a tape, whose records are kept, unless there was no memory for them.
-fn whole(kept: Result<Vec<TapeItem>, AllocError>, ended: Ended) -> Result<Tape, TapeFault>
+fn whole(kept: Result<Vec<TapeItem>, AllocError>, ended: Ended) -> Result<Tape, Refusal<TapeFault>>
     requires { ended ≡ Ended.AtEnd → IfOk kept (λ records. InLimits records.items) }
     ensures { kept_answer (λ records. records.items) ended kept ≡ result }
 {
     match ended {
         Ended::AtEnd => Ok(Tape { items: kept? }),
-        Ended::AtFault => Err(TapeFault::Fault),
-        Ended::AtLimit => Err(TapeFault::TooLong),
+        Ended::AtFault => Err(Refusal::For(TapeFault::Fault)),
+        Ended::AtLimit => Err(Refusal::For(TapeFault::TooLong)),
     }
 }
 
 /// The answer where the bytes begin a tape, but are none.
-fn short(taken: usize, ended: Ended) -> Result<Tape, TapeFault>
+fn short(taken: usize, ended: Ended) -> Result<Tape, Refusal<TapeFault>>
     ensures { when_short taken ended ≡ result }
 {
     match ended {
-        Ended::AtEnd => Err(TapeFault::Bad(taken as u64)),
-        Ended::AtFault => Err(TapeFault::Fault),
-        Ended::AtLimit => Err(TapeFault::TooLong),
+        Ended::AtEnd => Err(Refusal::For(TapeFault::Bad(taken as u64))),
+        Ended::AtFault => Err(Refusal::For(TapeFault::Fault)),
+        Ended::AtLimit => Err(Refusal::For(TapeFault::TooLong)),
     }
 }
 
 /// The answer to a bad byte.
-fn bad(place: usize, ended: Ended) -> Result<Tape, TapeFault>
+fn bad(place: usize, ended: Ended) -> Result<Tape, Refusal<TapeFault>>
     ensures { when_bad place ended ≡ result }
 {
     match ended {
-        Ended::AtLimit if place == MAX_TAPE => Err(TapeFault::TooLong),
-        _ => Err(TapeFault::Bad(place as u64)),
+        Ended::AtLimit if place == MAX_TAPE => Err(Refusal::For(TapeFault::TooLong)),
+        _ => Err(Refusal::For(TapeFault::Bad(place as u64))),
     }
 }
 
@@ -171,21 +171,21 @@ fn answer_of(
     taken: usize,
     ended: Ended,
     read: Result<Result<Vec<TapeItem>, AllocError>, Flaw>,
-) -> Result<Tape, TapeFault>
+) -> Result<Tape, Refusal<TapeFault>>
     requires whole { ended ≡ Ended.AtEnd → IfOk read (λ kept. IfOk kept (λ records. InLimits records.items)) }
     requires within { (left : ℕ) → IsErrOf read (Flaw.Bad left) → left ≤ taken }
     ensures { answer_of (λ records. records.items) taken ended read ≡ result }
 {
     match read {
         Ok(kept) => whole(kept, ended),
-        Err(Flaw::TooMany(_)) => Err(TapeFault::TooLong),
+        Err(Flaw::TooMany(_)) => Err(Refusal::For(TapeFault::TooLong)),
         Err(Flaw::Bad(0)) => short(taken, ended),
         Err(Flaw::Bad(left)) => bad(taken - left, ended),
     }
 }
 
 /// The tape that the bytes are, or the answer to them.
-fn judge(alloc: Global, bytes: &[u8], ended: Ended) -> Result<Tape, TapeFault>
+fn judge(alloc: Global, bytes: &[u8], ended: Ended) -> Result<Tape, Refusal<TapeFault>>
     requires { EndsWithin ended bytes.now }
     ensures { IsDue result (outcome bytes.now ended) }
 {
@@ -193,8 +193,8 @@ fn judge(alloc: Global, bytes: &[u8], ended: Ended) -> Result<Tape, TapeFault>
 }
 
 /// The tape that the source gives, or the answer to what it gives.
-fn read_from<S: Source>(alloc: Global, source: &mut S) -> Result<Tape, TapeFault>
-    ensures hides_nothing { IsErrOf result TapeFault.NoMemory → HidesNothing (S.left source.old) (S.left source.new) (S.ends source.old) (S.ends source.new) }
+fn read_from<S: Source>(alloc: Global, source: &mut S) -> Result<Tape, Refusal<TapeFault>>
+    ensures hides_nothing { IsErrOf result Refusal.NoMemory → HidesNothing (S.left source.old) (S.left source.new) (S.ends source.old) (S.ends source.new) }
     ensures exact { IsReadFrom (S.left source.old) (S.left source.new) (S.faults source.old) (S.faults source.new) result }
     ensures later { S.faults source.old ≤ S.faults source.new }
 {

@@ -5,7 +5,7 @@ use Rattle.std.proofs.lemmas.Bool.{ne_eqb}
 use Rattle.std.proofs.lemmas.Nat.{be_bytes_2, be_bytes_4}
 use Rattle.p4_types.specs.declared.tape.TapeRecord.{TapeRecord}
 use Rattle.p4_types.specs.declared.tape.TapeRecord.TheVariants.{Call, Packet, Leave, Meet}
-use Rattle.wire_fields.specs.Reading.{◌>>=◌}
+use Rattle.list_types.specs.Results.{◌>>=◌}
 use Rattle.p4_types.specs.declared.calls.Method.{Method}
 use Rattle.p4_types.specs.declared.calls.Method.TheVariants as method_variants
 use Rattle.run_spec.specs.Tape.{method_number, record_bytes, IsCall, IsLeave, end_bytes}

@@ -1,7 +1,7 @@
 -- Lanes read from two bytes: what is read is spelled so, what is spelled so is read, and the place of a flaw is exact.
 use Rattle.std.proofs.Common.{◌≡◌, ℕ, zero, suc, ◌<◌, ◌≤◌, Bool, true, false, cond, ltb, ◌||◌, List, [], ◌∷◌, ◌++◌, length, Result, Ok, Err, refl, sym, ap, ap₂, subst, ◌∙◌, ◌⊎◌, arith, inl, inr}
 use Rattle.std.proofs.lemmas.Bool.{and_parts, and_from, ltb-true, lt-ltb, or_left, or_right}
-use Rattle.wire_fields.specs.Reading.{◌>>=◌}
+use Rattle.list_types.specs.Results.{◌>>=◌}
 use Rattle.run_spec.specs.TapeReading.{number_at}
 use Rattle.run_spec.proofs.Readers.{bind_ok, ok_is, Read, IsFlawed, IsReader, then, then_reader, same_reader, digits_of, IsRange, number_found, number_again, number_reader, chosen, done, failed, clash, clash_err, err_is}
 use Rattle.tape_spec.specs.Reading.{is_lane, some_lane, low_at, lane_at}

@@ -2,7 +2,7 @@
 use Rattle.std.proofs.Common.{cond, Bool, ◌≡◌, ℕ, zero, suc, ◌<◌, ◌≤◌, true, false, leb, List, [], ◌∷◌, ◌++◌, length, Option, Some, None, Result, Ok, Err, flat_map, refl, sym, ap, subst, ◌∙◌, append_assoc, arith, inl, inr}
 use Rattle.std.proofs.lemmas.Bool.{and_parts, and_from, leb-true, le-leb}
 use Rattle.p4_types.specs.declared.tape.TapeRecord.TheVariants.{Call, Packet, Leave, Meet}
-use Rattle.wire_fields.specs.Reading.{◌>>=◌}
+use Rattle.list_types.specs.Results.{◌>>=◌}
 use Rattle.run_spec.specs.Tape.{end_bytes}
 use Rattle.tape_spec.specs.Reading.{Flaw, Bad, TooMany, or_bad, begins_counted, item_at, item_within, nothing_after, with_first, items_at}
 use Rattle.run_spec.proofs.Readers.{bind_ok, bind_err, chosen}

@@ -2,7 +2,7 @@
 use Rattle.std.specs.Prelude.{ℕ, zero, suc, ◌-◌, nat_lt, nat_le, ◌==◌, ◌||◌, ◌&&◌, Bool, false, if◌then◌else◌, List, [], ◌∷◌, length, Option, Some, None, Result, Ok, Err}
 use Rattle.p4_types.specs.declared.tape.TapeRecord.{TapeRecord}
 use Rattle.p4_types.specs.declared.tape.TapeRecord.TheVariants.{Call, Leave}
-use Rattle.wire_fields.specs.Reading.{◌>>=◌}
+use Rattle.list_types.specs.Results.{◌>>=◌}
 use Rattle.run_spec.specs.Tape.{magic}
 use Rattle.run_spec.specs.TapeReading.{number_at, bytes_at, text_at, method_of, packet_at, some_called, meet_at, end_at}
 use Rattle.tape_spec.specs.declared.item.TapeItem.{TapeItem}

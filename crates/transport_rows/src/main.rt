@@ -12,6 +12,7 @@
 mod row;
 mod text;
 
+use list_types::Refusal;
 use std::io;
 
 fn main(rt: HostRuntime) -> io::Result<()> {
@@ -19,8 +20,8 @@ fn main(rt: HostRuntime) -> io::Result<()> {
         let line = line?;
         match row::answer(rt.alloc(), line.as_str()) {
             Ok(text) => println!(rt; "{text}")?,
-            Err(row::RowError::NoMemory) => println!(rt; "no memory")?,
-            Err(row::RowError::BadRow) => println!(rt; "bad row")?,
+            Err(Refusal::NoMemory) => println!(rt; "no memory")?,
+            Err(Refusal::For(_)) => println!(rt; "bad row")?,
         }
     }
     Ok(())

@@ -2,33 +2,12 @@
 use crate::text::{push_events, push_number};
 use h2_conn::Conn;
 use hpack_tables::Header;
-use list_types::{ByteList, List, NoMemory};
-use std::alloc::{AllocError, AllocFailed, Global};
+use list_types::{ByteList, List, Refusal};
+use std::alloc::Global;
 
-/// Why a line has no answer.
-#[derive(Drop)]
-pub enum RowError {
-    NoMemory,
-    BadRow,
-}
-
-impl From<NoMemory> for RowError {
-    fn from(_: NoMemory) -> RowError {
-        RowError::NoMemory
-    }
-}
-
-impl From<AllocError> for RowError {
-    fn from(_: AllocError) -> RowError {
-        RowError::NoMemory
-    }
-}
-
-impl<T: Drop> From<AllocFailed<T>> for RowError {
-    fn from(_failed: AllocFailed<T>) -> RowError {
-        RowError::NoMemory
-    }
-}
+/// The line is none that has an answer.
+#[derive(Clone, Copy)]
+pub struct BadRow;
 
 // How the bytes of a line come.
 #[derive(Clone, Copy)]
@@ -53,18 +32,18 @@ struct Run {
     ended: bool,
 }
 
-fn number_of(word: &str) -> Result<u32, RowError> {
-    word.parse::<u32>().ok().ok_or(RowError::BadRow)
+fn number_of(word: &str) -> Result<u32, Refusal<BadRow>> {
+    word.parse::<u32>().ok().ok_or(Refusal::For(BadRow))
 }
 
 // Adds hex, or hex and how many times.
-fn push_part(alloc: Global, bytes: &mut ByteList, part: &str) -> Result<(), RowError> {
+fn push_part(alloc: Global, bytes: &mut ByteList, part: &str) -> Result<(), Refusal<BadRow>> {
     let (digits, count) = match part.split_once('*') {
         Some((digits, count)) => (digits, number_of(count)?),
         None => (part, 1),
     };
     let Ok(once) = hex::decode(alloc, digits.as_bytes()) else {
-        return Err(RowError::BadRow);
+        return Err(Refusal::For(BadRow));
     };
     for _ in 0..count {
         bytes.extend_from_slice(once.as_slice())?;
@@ -72,7 +51,7 @@ fn push_part(alloc: Global, bytes: &mut ByteList, part: &str) -> Result<(), RowE
     Ok(())
 }
 
-fn bytes_of(alloc: Global, word: &str) -> Result<ByteList, RowError> {
+fn bytes_of(alloc: Global, word: &str) -> Result<ByteList, Refusal<BadRow>> {
     let mut bytes = ByteList::new(alloc);
     for part in word.split('+') {
         push_part(alloc, &mut bytes, part)?;
@@ -81,7 +60,7 @@ fn bytes_of(alloc: Global, word: &str) -> Result<ByteList, RowError> {
 }
 
 // A piece: its events, and the code of a breach.
-fn feed_piece(alloc: Global, run: &mut Run, piece: &[u8]) -> Result<Option<u32>, RowError> {
+fn feed_piece(alloc: Global, run: &mut Run, piece: &[u8]) -> Result<Option<u32>, Refusal<BadRow>> {
     let (events, code) = run.conn.feed(alloc, piece)?;
     push_events(alloc, &mut run.text, events.as_slice())?;
     match code {
@@ -90,7 +69,7 @@ fn feed_piece(alloc: Global, run: &mut Run, piece: &[u8]) -> Result<Option<u32>,
     }
 }
 
-fn feed_each(alloc: Global, run: &mut Run, bytes: &[u8]) -> Result<Option<u32>, RowError> {
+fn feed_each(alloc: Global, run: &mut Run, bytes: &[u8]) -> Result<Option<u32>, Refusal<BadRow>> {
     let mut code = None;
     for byte in bytes {
         code = feed_piece(alloc, run, &[*byte])?;
@@ -103,14 +82,14 @@ fn feed_in_two(
     run: &mut Run,
     bytes: &[u8],
     place: usize,
-) -> Result<Option<u32>, RowError> {
+) -> Result<Option<u32>, Refusal<BadRow>> {
     let (front, rest) = bytes.split_at(place.saturating_sub(run.fed).min(bytes.len()));
     let _ = feed_piece(alloc, run, front)?;
     feed_piece(alloc, run, rest)
 }
 
 // Bytes come; a code is told once, or again where that is asked for.
-fn feed(alloc: Global, run: &mut Run, word: &str, again: bool) -> Result<(), RowError> {
+fn feed(alloc: Global, run: &mut Run, word: &str, again: bool) -> Result<(), Refusal<BadRow>> {
     let bytes = bytes_of(alloc, word)?;
     let code = match run.cut {
         Cut::Nowhere => feed_piece(alloc, run, bytes.as_slice())?,
@@ -128,16 +107,16 @@ fn feed(alloc: Global, run: &mut Run, word: &str, again: bool) -> Result<(), Row
     Ok(())
 }
 
-fn header_of(alloc: Global, word: &str) -> Result<Header, RowError> {
+fn header_of(alloc: Global, word: &str) -> Result<Header, Refusal<BadRow>> {
     let Some((name, value)) = word.split_once('=') else {
-        return Err(RowError::BadRow);
+        return Err(Refusal::For(BadRow));
     };
     let name = bytes_of(alloc, name)?;
     let value = bytes_of(alloc, value)?;
     Ok(Header { name, value })
 }
 
-fn headers_of(alloc: Global, word: &str) -> Result<List<Header>, RowError> {
+fn headers_of(alloc: Global, word: &str) -> Result<List<Header>, Refusal<BadRow>> {
     let mut headers = List::new(alloc);
     for part in word.split(',') {
         let header = header_of(alloc, part)?;
@@ -146,12 +125,12 @@ fn headers_of(alloc: Global, word: &str) -> Result<List<Header>, RowError> {
     Ok(headers)
 }
 
-fn send_headers(alloc: Global, conn: &mut Conn, word: &str) -> Result<(), RowError> {
+fn send_headers(alloc: Global, conn: &mut Conn, word: &str) -> Result<(), Refusal<BadRow>> {
     let Some((stream, rest)) = word.split_once(':') else {
-        return Err(RowError::BadRow);
+        return Err(Refusal::For(BadRow));
     };
     let Some((end, list)) = rest.split_once(':') else {
-        return Err(RowError::BadRow);
+        return Err(Refusal::For(BadRow));
     };
     let headers = headers_of(alloc, list)?;
     let stream = number_of(stream)?;
@@ -159,9 +138,9 @@ fn send_headers(alloc: Global, conn: &mut Conn, word: &str) -> Result<(), RowErr
     Ok(())
 }
 
-fn send_data(alloc: Global, conn: &mut Conn, word: &str) -> Result<(), RowError> {
+fn send_data(alloc: Global, conn: &mut Conn, word: &str) -> Result<(), Refusal<BadRow>> {
     let Some((stream, bytes)) = word.split_once(':') else {
-        return Err(RowError::BadRow);
+        return Err(Refusal::For(BadRow));
     };
     let bytes = bytes_of(alloc, bytes)?;
     let stream = number_of(stream)?;
@@ -169,7 +148,7 @@ fn send_data(alloc: Global, conn: &mut Conn, word: &str) -> Result<(), RowError>
     Ok(())
 }
 
-fn tell_sent(alloc: Global, run: &mut Run) -> Result<(), RowError> {
+fn tell_sent(alloc: Global, run: &mut Run) -> Result<(), Refusal<BadRow>> {
     let output = run.conn.take_output(alloc);
     run.text.push_str(" sent=")?;
     let sent = hex::encode(alloc, output.as_slice())?;
@@ -177,30 +156,30 @@ fn tell_sent(alloc: Global, run: &mut Run) -> Result<(), RowError> {
     Ok(())
 }
 
-fn tell_count(alloc: Global, run: &mut Run) -> Result<(), RowError> {
+fn tell_count(alloc: Global, run: &mut Run) -> Result<(), Refusal<BadRow>> {
     let output = run.conn.take_output(alloc);
     push_number(alloc, &mut run.text, " took=", output.len() as u64)?;
     Ok(())
 }
 
 // One step of a line.
-fn step(alloc: Global, run: &mut Run, word: &str) -> Result<(), RowError> {
+fn step(alloc: Global, run: &mut Run, word: &str) -> Result<(), Refusal<BadRow>> {
     match word.split_once('=') {
         Some(("feed", rest)) => feed(alloc, run, rest, false),
         Some(("again", rest)) => feed(alloc, run, rest, true),
         Some(("headers", rest)) => send_headers(alloc, &mut run.conn, rest),
         Some(("data", rest)) => send_data(alloc, &mut run.conn, rest),
-        Some(_) => Err(RowError::BadRow),
+        Some(_) => Err(Refusal::For(BadRow)),
         None => match word {
             "sent" => tell_sent(alloc, run),
             "took" => tell_count(alloc, run),
-            _ => Err(RowError::BadRow),
+            _ => Err(Refusal::For(BadRow)),
         },
     }
 }
 
 // What a connection gives and sends, step by step.
-fn run_of(alloc: Global, steps: &str, cut: Cut) -> Result<Run, RowError> {
+fn run_of(alloc: Global, steps: &str, cut: Cut) -> Result<Run, Refusal<BadRow>> {
     let mut run = Run {
         conn: Conn::new(alloc)?,
         text: String::new(alloc),
@@ -216,13 +195,13 @@ fn run_of(alloc: Global, steps: &str, cut: Cut) -> Result<Run, RowError> {
 }
 
 // It gives and sends the same where its bytes come so.
-fn is_same(alloc: Global, steps: &str, whole: &Run, cut: Cut) -> Result<bool, RowError> {
+fn is_same(alloc: Global, steps: &str, whole: &Run, cut: Cut) -> Result<bool, Refusal<BadRow>> {
     let other = run_of(alloc, steps, cut)?;
     Ok(other.text.as_str() == whole.text.as_str())
 }
 
 // At how many cuts it is the same.
-fn count_of_cuts(alloc: Global, steps: &str, whole: &Run) -> Result<u64, RowError> {
+fn count_of_cuts(alloc: Global, steps: &str, whole: &Run) -> Result<u64, Refusal<BadRow>> {
     let mut same: u64 = 0;
     for place in 0..whole.fed {
         if is_same(alloc, steps, whole, Cut::Behind(place))? {
@@ -232,7 +211,12 @@ fn count_of_cuts(alloc: Global, steps: &str, whole: &Run) -> Result<u64, RowErro
     Ok(same)
 }
 
-fn told(alloc: Global, name: &str, steps: &str, at_every_cut: bool) -> Result<String, RowError> {
+fn told(
+    alloc: Global,
+    name: &str,
+    steps: &str,
+    at_every_cut: bool,
+) -> Result<String, Refusal<BadRow>> {
     let whole = run_of(alloc, steps, Cut::Nowhere)?;
     let mut text = String::new(alloc);
     text.push_str(name)?;
@@ -248,9 +232,9 @@ fn told(alloc: Global, name: &str, steps: &str, at_every_cut: bool) -> Result<St
 }
 
 /// What a line's connection gives and sends.
-pub fn answer(alloc: Global, line: &str) -> Result<String, RowError> {
+pub fn answer(alloc: Global, line: &str) -> Result<String, Refusal<BadRow>> {
     let Some((name, rest)) = line.split_once(' ') else {
-        return Err(RowError::BadRow);
+        return Err(Refusal::For(BadRow));
     };
     match rest.split_once(' ') {
         Some(("every-cut", steps)) => told(alloc, name, steps, true),

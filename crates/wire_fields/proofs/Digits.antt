@@ -4,7 +4,8 @@ use Rattle.std.proofs.lemmas.Bool.{lt-ltb, le-ltb}
 use Rattle.std.proofs.Math.Nat.{pow-suc, one-le-pow, mul-le-mul_left, mul-le-mul_right, mod-eq_of_lt}
 use Rattle.wire_fields.specs.declared.wire.WireFault.{WireFault}
 use Rattle.wire_fields.specs.declared.wire.WireFault.TheVariants.{VarintLong}
-use Rattle.wire_fields.specs.Reading.{◌>>=◌, byte_at, varint_in}
+use Rattle.list_types.specs.Results.{◌>>=◌}
+use Rattle.wire_fields.specs.Reading.{byte_at, varint_in}
 
 -- a number that is read further on, above what was read so far
 abbrev pub above : ℕ → ℕ → Result (ℕ × List ℕ) WireFault → Result (ℕ × List ℕ) WireFault

@@ -10,7 +10,8 @@ use Rattle.wire_fields.specs.declared.wire.WireType.{WireType}
 use Rattle.wire_fields.specs.declared.wire.WireType.TheVariants as types
 use Rattle.wire_fields.specs.Fields.{Payload, Varint, Fixed64, Bytes, Fixed32, WireField, wire_type, tag, IsVarint, FieldSpells}
 use Rattle.wire_fields.specs.Field.{field_of, Begins}
-use Rattle.wire_fields.specs.Reading.{◌>>=◌, varint_at, type_of, tag_at, payload_at, numbered, field_at, Gives}
+use Rattle.list_types.specs.Results.{◌>>=◌, GivesExactly}
+use Rattle.wire_fields.specs.Reading.{varint_at, type_of, tag_at, payload_at, numbered, field_at}
 use Rattle.wire_fields.proofs.Steps.{IsBytes, IsBytes-after, bind_ok, guard_ok, chosen, ok_is, err_not_ok}
 use Rattle.wire_fields.proofs.Varints.{HasVarint, has_varint, varint_again}
 use Rattle.wire_fields.proofs.Payloads.{number_of, type_is, HasPayload, has_payload, payload_again}
@@ -93,7 +94,7 @@ has_field bytes field rest fits e =
     let begins = made_of bytes tag.0 tag.1 tag.2 load.0.0 load.0.1 t p in
     subst (λ (x : WireField × List ℕ). Begins x.0 bytes x.1) (ok_is made (field, rest) load.2) begins
 
-pub has_begun : (bytes : List ℕ) (read : Result (Field × Bor (List ℕ)) WireFault) → IsBytes bytes → Gives (λ x. (field_of x.0, x.1.now)) read (field_at bytes)
+pub has_begun : (bytes : List ℕ) (read : Result (Field × Bor (List ℕ)) WireFault) → IsBytes bytes → GivesExactly (λ x. (field_of x.0, x.1.now)) read (field_at bytes)
     → IfOk read (λ x. Begins (field_of x.0) bytes x.1.now)
 has_begun bytes (Ok x) fits given = has_field bytes (field_of x.0) x.1.now fits given
 has_begun bytes (Err fault) fits given = tt

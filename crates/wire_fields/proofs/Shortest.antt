@@ -1,41 +1,23 @@
 -- The shortest varint of a number is a varint of it, and is written byte by byte.
-use Rattle.std.proofs.Common.{◌≡◌, ℕ, zero, suc, ◌+◌, ◌/◌, ◌%◌, ◌^◌, ◌<◌, ◌≤◌, List, [], ◌∷◌, ◌++◌, length, take, refl, sym, ap, ◌∙◌, append_assoc, arith, inl, inr}
-use Rattle.std.proofs.lemmas.Bool.{cases_lt, lt-ltb, le-ltb}
+use Rattle.std.proofs.Common.{◌≡◌, ℕ, zero, suc, ◌+◌, ◌/◌, ◌%◌, ◌^◌, ◌<◌, ◌≤◌, List, [], ◌∷◌, ◌++◌, length, take, sym, ap, ◌∙◌, append_assoc, arith, inl, inr}
+use Rattle.std.proofs.lemmas.Bool.{cases_lt}
 use Rattle.std.proofs.lemmas.List.{length-take, take-append-le}
-use Rattle.std.proofs.Math.Nat.{pow-suc, mod-eq_of_lt}
+use Rattle.std.proofs.Math.Nat.{mod-eq_of_lt}
+use Rattle.canon_bytes.proofs.Base128Steps.{one_byte, more_bytes, quotient_below, same_bytes}
 use Rattle.wire_fields.specs.Fields.{EndsAtLast, sevens, IsVarint}
-use Rattle.wire_fields.specs.Spelling.{varint_from, varint}
+use Rattle.canon_bytes.specs.Base128.{base_128}
+use Rattle.wire_fields.specs.Spelling.{varint}
 use Rattle.wire_fields.proofs.Varints.{EndsAtLast-cons}
-
-one_byte : (k value : ℕ) → value < 128 → varint_from (suc k) value ≡ value ∷ []
-unfolding varint_from
-one_byte k value lt = rw (lt-ltb value 128 lt) refl
-
-more_bytes : (k value : ℕ) → 128 ≤ value → varint_from (suc k) value ≡ (value % 128 + 128) ∷ varint_from k (value / 128)
-unfolding varint_from
-more_bytes k value le = rw (le-ltb value 128 le) refl
-
-quotient_below : (k value : ℕ) → value < 128 ^ suc (suc k) → value / 128 < 128 ^ suc k
-quotient_below k value lt = omega (arith, pow-suc 128 (suc k))
-
--- room for more bytes changes nothing
-same_bytes : (k value : ℕ) → value < 128 ^ suc k → varint_from (suc k) value ≡ varint_from (suc (suc k)) value
-same_bytes zero value lt = rw (one_byte 0 value (omega arith), one_byte 1 value (omega arith)) refl
-same_bytes (suc k) value lt =
-    elim (cases_lt value 128) [
-      | inl below ↦ rw (one_byte (suc k) value below, one_byte (suc (suc k)) value below) refl
-      | inr le ↦ rw (more_bytes (suc k) value le, more_bytes (suc (suc k)) value le) (ap (λ x. (value % 128 + 128) ∷ x) (same_bytes k (value / 128) (quotient_below k value lt)))
-    ]
 
 record IsDigits (k value : ℕ) (bytes : List ℕ) : Type 0 where
   pub ends : EndsAtLast bytes
   pub short : length bytes ≤ suc k
   pub value_is : value ≡ sevens bytes
 
-is_byte : (k value : ℕ) → value < 128 → IsDigits k value (varint_from (suc k) value)
+is_byte : (k value : ℕ) → value < 128 → IsDigits k value (base_128 (suc k) value)
 is_byte k value lt = rw (one_byte k value lt) (record { ends = lt; short = omega arith; value_is = omega (arith, mod-eq_of_lt lt) })
 
-is_digits : (k value : ℕ) → value < 128 ^ suc k → IsDigits k value (varint_from (suc k) value)
+is_digits : (k value : ℕ) → value < 128 ^ suc k → IsDigits k value (base_128 (suc k) value)
 is_digits zero value lt = is_byte 0 value (omega arith)
 is_digits (suc k) value lt =
     elim (cases_lt value 128) [
@@ -45,7 +27,7 @@ is_digits (suc k) value lt =
           let low : (value % 128 + 128) % 128 ≡ value % 128 = omega arith in
           rw (more_bytes (suc k) value le)
           (record {
-            ends = EndsAtLast-cons (value % 128 + 128) (varint_from (suc k) (value / 128)) (omega arith) (omega arith) high.ends;
+            ends = EndsAtLast-cons (value % 128 + 128) (base_128 (suc k) (value / 128)) (omega arith) (omega arith) high.ends;
             short = omega (arith, high.short);
             value_is = omega (arith, high.value_is);
           })

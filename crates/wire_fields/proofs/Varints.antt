@@ -4,7 +4,8 @@ use Rattle.std.proofs.lemmas.Bool.{ltb-true, ltb-false, lt-ltb, le-ltb}
 use Rattle.std.proofs.Math.Nat.{pow-suc, one-le-pow, mod-eq_of_lt}
 use Rattle.wire_fields.specs.declared.wire.WireFault.TheVariants.{VarintLong}
 use Rattle.wire_fields.specs.Fields.{EndsAtLast, sevens, IsVarint}
-use Rattle.wire_fields.specs.Reading.{◌>>=◌, varint_in, varint_at}
+use Rattle.list_types.specs.Results.{◌>>=◌}
+use Rattle.wire_fields.specs.Reading.{varint_in, varint_at}
 use Rattle.wire_fields.proofs.Steps.{IsBytes, bind_ok, guard_ok, chosen, ok_is}
 
 -- the digits of a varint stand at the front, at most so many before a tenth

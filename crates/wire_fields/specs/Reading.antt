@@ -1,22 +1,12 @@
 -- Reading the field at the front of bytes, from left to right, with the first fault that is met.
-use Rattle.std.specs.Prelude.{◌≡◌, ℕ, zero, suc, ◌+◌, ◌*◌, ◌/◌, ◌%◌, ◌||◌, ◌==◌, nat_lt, if◌then◌else◌, List, [], ◌∷◌, length, take, drop, Option, Some, None, Result, Ok, Err}
+use Rattle.std.specs.Prelude.{ℕ, zero, suc, ◌+◌, ◌*◌, ◌/◌, ◌%◌, ◌||◌, ◌==◌, nat_lt, if◌then◌else◌, List, [], ◌∷◌, length, take, drop, Option, Some, None, Result, Ok, Err}
 use Rattle.std.specs.Int.{Width, w32, w64, byte_len, from_le_bytes}
+use Rattle.list_types.specs.Results.{◌>>=◌}
 use Rattle.wire_fields.specs.declared.wire.WireFault.{WireFault}
 use Rattle.wire_fields.specs.declared.wire.WireFault.TheVariants.{Truncated, VarintLong, BadType, ZeroField}
 use Rattle.wire_fields.specs.declared.wire.WireType.{WireType}
 use Rattle.wire_fields.specs.declared.wire.WireType.TheVariants as types
 use Rattle.wire_fields.specs.Fields.{Payload, Varint, Fixed64, Bytes, Fixed32, WireField}
-
-infixl 10 ◌>>=◌
--- the next step of reading, where there was no fault
-abbrev pub ◌>>=◌ : {A B E : Type 0} → Result A E → (A → Result B E) → Result B E
-(Ok x) >>= f = f x
-(Err fault) >>= f = Err fault
-
--- what a function returned, seen by view, is what reading gives
-abbrev pub Gives : {X Y : Type 0} → (X → Y) → Result X WireFault → Result Y WireFault → Type 0
-Gives view (Ok x) read = read ≡ Ok (view x)
-Gives view (Err fault) read = read ≡ Err fault
 
 -- A part of a field is read as its value and the bytes after it. This one is a byte.
 abbrev pub byte_at : List ℕ → Result (ℕ × List ℕ) WireFault

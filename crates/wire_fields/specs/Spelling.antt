@@ -1,17 +1,13 @@
 -- The canonical spelling of fields: each varint as short as it can be.
-use Rattle.std.specs.Prelude.{ℕ, zero, suc, ◌+◌, ◌/◌, ◌%◌, nat_lt, if◌then◌else◌, List, [], ◌∷◌, ◌++◌, length}
+use Rattle.std.specs.Prelude.{ℕ, List, ◌++◌, length}
 use Rattle.std.specs.List.{flat_map}
 use Rattle.std.specs.Int.{w32, w64, to_le_bytes}
+use Rattle.canon_bytes.specs.Base128.{base_128}
 use Rattle.wire_fields.specs.Fields.{Payload, Varint, Fixed64, Bytes, Fixed32, WireField, tag}
-
--- the shortest varint of a number, in at most so many bytes
-unfoldable pub varint_from : ℕ → ℕ → List ℕ
-varint_from zero value = []
-varint_from (suc left) value = if nat_lt value 128 then value ∷ [] else (value % 128 + 128) ∷ varint_from left (value / 128)
 
 -- the shortest varint of a number of 64 bits
 abbrev pub varint : ℕ → List ℕ
-varint value = varint_from 10 value
+varint value = base_128 10 value
 
 -- the canonical bytes of a payload: bytes follow their length
 abbrev pub payload_bytes : Payload → List ℕ

@@ -1,7 +1,8 @@
 //! The parts of a field, read from the front of bytes.
 ghost use Rattle.std.specs.Prelude.{◌≡◌, ◌%◌, ◌<◌, length, IfOk};
 ghost use Rattle.std.specs.Int.{w32, w64};
-ghost use Rattle.wire_fields.specs.Reading.{Gives, byte_at, varint_at, number_at, bytes_at, type_of, tag_at, payload_at, numbered, field_at};
+ghost use Rattle.list_types.specs.Results.{GivesExactly};
+ghost use Rattle.wire_fields.specs.Reading.{byte_at, varint_at, number_at, bytes_at, type_of, tag_at, payload_at, numbered, field_at};
 ghost use Rattle.wire_fields.specs.Field.{field_of, Begins};
 
 use crate::wire::{Field, WireFault, WireType};
@@ -12,7 +13,7 @@ const MAX_NUMBER: u64 = 536_870_911;
 const MAX_TENTH: u8 = 1;
 
 fn byte(bytes: &[u8]) -> Result<(u8, &[u8]), WireFault>
-    ensures { Gives (λ x. (x.0, x.1.now)) result (byte_at bytes.now) }
+    ensures { GivesExactly (λ x. (x.0, x.1.now)) result (byte_at bytes.now) }
 {
     match bytes {
         [] => Err(WireFault::Truncated),
@@ -22,7 +23,7 @@ fn byte(bytes: &[u8]) -> Result<(u8, &[u8]), WireFault>
 
 /// A varint, and the bytes after it.
 pub fn varint(bytes: &[u8]) -> Result<(u64, &[u8]), WireFault>
-    ensures { Gives (λ x. (x.0, x.1.now)) result (varint_at bytes.now) }
+    ensures { GivesExactly (λ x. (x.0, x.1.now)) result (varint_at bytes.now) }
 {
     let mut value: u64 = 0;
     let mut unit: u64 = 1;
@@ -44,7 +45,7 @@ pub fn varint(bytes: &[u8]) -> Result<(u64, &[u8]), WireFault>
 }
 
 fn fixed64(bytes: &[u8]) -> Result<(u64, &[u8]), WireFault>
-    ensures { Gives (λ x. (x.0, x.1.now)) result (number_at w64 bytes.now) }
+    ensures { GivesExactly (λ x. (x.0, x.1.now)) result (number_at w64 bytes.now) }
 {
     if bytes.len() < 8 {
         return Err(WireFault::Truncated);
@@ -57,7 +58,7 @@ fn fixed64(bytes: &[u8]) -> Result<(u64, &[u8]), WireFault>
 }
 
 fn fixed32(bytes: &[u8]) -> Result<(u32, &[u8]), WireFault>
-    ensures { Gives (λ x. (x.0, x.1.now)) result (number_at w32 bytes.now) }
+    ensures { GivesExactly (λ x. (x.0, x.1.now)) result (number_at w32 bytes.now) }
 {
     if bytes.len() < 4 {
         return Err(WireFault::Truncated);
@@ -69,7 +70,7 @@ fn fixed32(bytes: &[u8]) -> Result<(u32, &[u8]), WireFault>
 
 #[tactic(auto, unfolding(crate::specs::Reading::bytes_at))]
 fn inside(bytes: &[u8]) -> Result<(&[u8], &[u8]), WireFault>
-    ensures { Gives (λ x. (x.0.now, x.1.now)) result (bytes_at bytes.now) }
+    ensures { GivesExactly (λ x. (x.0.now, x.1.now)) result (bytes_at bytes.now) }
 {
     let (size, rest) = varint(bytes)?;
     if (rest.len() as u64) < size {
@@ -79,7 +80,7 @@ fn inside(bytes: &[u8]) -> Result<(&[u8], &[u8]), WireFault>
 }
 
 fn wire_type(tag: u64) -> Result<WireType, WireFault>
-    ensures { Gives (λ x. x) result (type_of (tag % 8)) }
+    ensures { GivesExactly (λ x. x) result (type_of (tag % 8)) }
 {
     match tag % 8 {
         0 => Ok(WireType::Varint),
@@ -92,7 +93,7 @@ fn wire_type(tag: u64) -> Result<WireType, WireFault>
 
 #[tactic(auto, unfolding(crate::specs::Reading::tag_at))]
 fn tag(bytes: &[u8]) -> Result<(u32, WireType, &[u8]), WireFault>
-    ensures { Gives (λ x. (x.0, x.1, x.2.now)) result (tag_at bytes.now) }
+    ensures { GivesExactly (λ x. (x.0, x.1, x.2.now)) result (tag_at bytes.now) }
 {
     let (tag, rest) = varint(bytes)?;
     let wire_type = wire_type(tag)?;
@@ -104,7 +105,7 @@ fn tag(bytes: &[u8]) -> Result<(u32, WireType, &[u8]), WireFault>
 }
 
 fn payload(number: u32, wire_type: WireType, bytes: &[u8]) -> Result<(Field<'_>, &[u8]), WireFault>
-    ensures { Gives (λ x. (field_of x.0, x.1.now)) result (numbered number (payload_at wire_type bytes.now)) }
+    ensures { GivesExactly (λ x. (field_of x.0, x.1.now)) result (numbered number (payload_at wire_type bytes.now)) }
 {
     match wire_type {
         WireType::Varint => {
@@ -131,7 +132,7 @@ fn payload(number: u32, wire_type: WireType, bytes: &[u8]) -> Result<(Field<'_>,
 pub(crate) fn field(bytes: &[u8]) -> Result<(Field<'_>, &[u8]), WireFault>
     ensures begins { IfOk result (λ x. Begins (field_of x.0) bytes.now x.1.now) }
     ensures shorter { IfOk result (λ x. length x.1.now < length bytes.now) }
-    ensures exact { Gives (λ x. (field_of x.0, x.1.now)) result (field_at bytes.now) }
+    ensures exact { GivesExactly (λ x. (field_of x.0, x.1.now)) result (field_at bytes.now) }
 {
     let (number, wire_type, rest) = tag(bytes)?;
     payload(number, wire_type, rest)

@@ -6,7 +6,8 @@ use Rattle.std.proofs.lemmas.List.{append-nil}
 use Rattle.wire_fields.specs.declared.wire.WireFault.{WireFault}
 use Rattle.wire_fields.specs.Fields.{WireField}
 use Rattle.wire_fields.specs.Reading.{varint_at}
-use Rattle.wire_messages.specs.Message.{◌>>=◌, each, given, flatten, packed_in, numbers_of}
+use Rattle.list_types.specs.Options.{◌>>=◌}
+use Rattle.wire_messages.specs.Message.{each, given, flatten, packed_in, numbers_of}
 use Rattle.wire_messages.specs.Numbers.{as_uint32}
 use Rattle.wire_messages.specs.Scans.{packed_from, numbers_from}
 use Rattle.wire_messages.proofs.Scanning.{Scan}

@@ -10,10 +10,12 @@ use Rattle.std.proofs.lemmas.Grind.{flat_map-append}
 use Rattle.std.proofs.lemmas.Str.{is_utf8-from_IsUtf8}
 use Rattle.wire_fields.specs.Fields.{Payload, Varint, Bytes, WireField}
 use Rattle.wire_fields.specs.Reading.{varint_at}
-use Rattle.wire_fields.specs.Spelling.{varint_from, varint, field_bytes, spelling}
+use Rattle.canon_bytes.specs.Base128.{base_128}
+use Rattle.wire_fields.specs.Spelling.{varint, field_bytes, spelling}
 use Rattle.wire_fields.proofs.Shortest.{is_varint}
 use Rattle.wire_fields.proofs.Varints.{varint_again}
-use Rattle.wire_messages.specs.Message.{◌>>=◌, each, last_or, flatten, given, varint_of, bytes_of, as_text, numbers_of, packed_in, at_most_one, is_given, only_known, number_at, uint32_at, uint64_at, int32_at, int64_at, bool_at, uint32s_at, bytes_at, text_at, texts_at, messages_at, message_at, choice_at}
+use Rattle.list_types.specs.Options.{◌>>=◌}
+use Rattle.wire_messages.specs.Message.{each, last_or, flatten, given, varint_of, bytes_of, as_text, numbers_of, packed_in, at_most_one, is_given, only_known, number_at, uint32_at, uint64_at, int32_at, int64_at, bool_at, uint32s_at, bytes_at, text_at, texts_at, messages_at, message_at, choice_at}
 use Rattle.wire_messages.specs.Numbers.{as_uint32, as_uint64, as_int32, as_int64, as_bool}
 use Rattle.wire_messages.specs.Laws.{WrittenIsRead, RowByRow}
 use Rattle.wire_messages.specs.Written.{Uint32, Uint64, Int32, Int64, Flag, ByteString, Text, Texts, Packed, Message, Present, Messages, Carried, ChosenUint32, ChosenBytes, two_complement, unless_zero, unless_empty, unless_default, where_given, payloads, Row, row_fields, written, row_bytes, rising_from, rising, IsInt32, IsInt64, look, has_payload, sent}
@@ -180,7 +182,7 @@ some_bytes true x y rest = omega arith
 some_bytes false x y rest = omega arith
 
 varint_some : (value : ℕ) → 0 < length (varint value)
-unfolding varint_from
+unfolding base_128
 varint_some value = some_bytes (ltb value 128) value _ _
 
 packed_from : (steps : ℕ) (values : List ℕ) → All (λ value. value < 2 ^ 32) values → length (flat_map varint values) ≤ steps → packed_in as_uint32 steps (flat_map varint values) ≡ Some values

@@ -9,11 +9,13 @@ use Rattle.wire_fields.specs.Fields.{Payload, WireField}
 use Rattle.wire_fields.specs.Field.{field_of}
 use Rattle.std.specs.Str.{IsUtf8, is_utf8}
 use Rattle.std.proofs.lemmas.Str.{IsUtf8-from_is_utf8, is_utf8-from_IsUtf8}
-use Rattle.wire_messages.specs.Message.{◌>>=◌, each, last_or, given, at_most_one, as_text}
+use Rattle.list_types.specs.Options.{◌>>=◌}
+use Rattle.wire_messages.specs.Message.{each, last_or, given, at_most_one, as_text}
 use Rattle.std.specs.Result.{IsErr}
 use Rattle.wire_messages.specs.Answers.{Reads, Refuses}
-use Rattle.wire_messages.specs.declared.errors.ReadError.{ReadError}
-use Rattle.wire_messages.specs.declared.errors.ReadError.TheVariants.{NoMemory, Unreadable}
+use Rattle.list_types.specs.declared.memory.Refusal.{Refusal}
+use Rattle.list_types.specs.declared.memory.Refusal.TheVariants.{NoMemory, For}
+use Rattle.wire_messages.specs.declared.errors.Unreadable.{Unreadable}
 use Rattle.wire_messages.specs.Scans.{last_from, all_from, one_from}
 
 -- a scan that goes on from what the fields before gave
@@ -126,9 +128,9 @@ refused view (Ok x) read err e = absurd cc
 refused view (Err d) read err e = e
 
 -- a reader that takes memory refuses as the step that refused
-pub refuses : {Y Z : Type 0} (d : ReadError) (whole : Option Y) (step : Option Z) → Refuses d step → (step ≡ None → whole ≡ None) → Refuses d whole
+pub refuses : {Y Z : Type 0} (d : Refusal Unreadable) (whole : Option Y) (step : Option Z) → Refuses d step → (step ≡ None → whole ≡ None) → Refuses d whole
 refuses NoMemory whole step told no_more = tt
-refuses Unreadable whole step told no_more = no_more told
+refuses (For cause) whole step told no_more = no_more told
 
 -- bytes that are UTF-8 are a text
 pub is_text : (bytes text : List ℕ) → IsUtf8 bytes → text ≡ bytes → as_text bytes ≡ Some text

@@ -5,7 +5,8 @@ use Rattle.std.proofs.lemmas.List.Elements.{All-nil, All-push}
 use Rattle.std.proofs.lemmas.Bool.{ne_eqb}
 use Rattle.std.proofs.lemmas.List.{append-nil, map-append, take_more, take_all}
 use Rattle.wire_fields.specs.Fields.{Payload, Varint, Bytes, WireField, tag}
-use Rattle.wire_fields.specs.Spelling.{varint_from, field_bytes, number_field, bytes_field, spelling}
+use Rattle.canon_bytes.specs.Base128.{base_128}
+use Rattle.wire_fields.specs.Spelling.{field_bytes, number_field, bytes_field, spelling}
 use Rattle.wire_messages.specs.Written.{Value, Uint64, ByteString, Texts, Messages, payloads, unless_empty, unless_default, row_fields, row_bytes}
 
 -- values that are written as the same payloads
@@ -71,7 +72,7 @@ first_byte false x y rest more others = refl
 
 -- a message without bytes is one whose fields are all defaults
 pub message_bytes : (fields : List WireField) → unless_default (Some fields) ≡ unless_empty (spelling fields)
-unfolding varint_from
+unfolding base_128
 message_bytes [] = refl
 message_bytes (field ∷ fields) = sym (first_byte (ltb (tag field) 128) (tag field) _ _ _ (spelling fields))
 

@@ -3,15 +3,10 @@ use Rattle.std.specs.Prelude.{ℕ, ℤ, zero, suc, pos, ◌==◌, Bool, false, i
 use Rattle.std.specs.List.{list_all, list_any}
 use Rattle.std.specs.Result.{result_ok}
 use Rattle.std.specs.Str.{is_utf8}
+use Rattle.list_types.specs.Options.{◌>>=◌}
 use Rattle.wire_fields.specs.Fields.{Payload, Varint, Fixed64, Bytes, Fixed32, WireField}
 use Rattle.wire_fields.specs.Reading.{varint_at}
 use Rattle.wire_messages.specs.Numbers.{as_uint32, as_uint64, as_int32, as_int64, as_bool}
-
-infixl 10 ◌>>=◌
--- what is read from what was read before, or nothing where that was not read
-abbrev pub ◌>>=◌ : {A B : Type 0} → Option A → (A → Option B) → Option B
-(Some x) >>= f = f x
-None >>= f = None
 
 -- each item read, or nothing where one is not
 abbrev pub each : {A B : Type 0} → (A → Option B) → List A → Option (List B)

@@ -2,7 +2,8 @@
 use Rattle.std.specs.Prelude.{ℕ, List, ◌++◌, length, Option, Some}
 use Rattle.std.specs.List.{cons_option}
 use Rattle.wire_fields.specs.Fields.{Payload, WireField}
-use Rattle.wire_messages.specs.Message.{◌>>=◌, each, last_or, given, at_most_one, bytes_of, as_text, packed_in, numbers_of, flatten}
+use Rattle.list_types.specs.Options.{◌>>=◌}
+use Rattle.wire_messages.specs.Message.{each, last_or, given, at_most_one, bytes_of, as_text, packed_in, numbers_of, flatten}
 use Rattle.wire_messages.specs.Numbers.{as_uint32}
 
 -- the last value that is given under a number, or the one before

@@ -8,5 +8,5 @@ mod steps;
 mod values;
 pub mod write;
 
-pub use errors::{ReadError, Unreadable};
+pub use errors::Unreadable;
 pub use message::Message;

@@ -5,8 +5,9 @@ ghost use Rattle.wire_fields.specs.Fields.{WireField, Spells};
 ghost use Rattle.wire_messages.specs.Answers.{Reads, ReadsInMemory};
 ghost use Rattle.wire_messages.specs.Message.{uint32_at, uint64_at, int32_at, int64_at, bool_at, bytes_at, text_at, message_at, messages_at, texts_at, uint32s_at, is_given, choice_at, only_known};
 
-use crate::errors::{ReadError, Unreadable};
+use crate::errors::Unreadable;
 use crate::{steps, values};
+use list_types::Refusal;
 use std::alloc::Global;
 use std::marker::Model;
 use wire_fields::{Field, Fields};
@@ -29,16 +30,19 @@ impl<'a> Model for Message<'a> {
 
 impl<'a> Message<'a> {
     /// The message that the bytes are. It takes memory for the fields, and copies no bytes.
-    pub fn read(alloc: Global, bytes: &'a [u8]) -> Result<Message<'a>, ReadError>
+    pub fn read(alloc: Global, bytes: &'a [u8]) -> Result<Message<'a>, Refusal<Unreadable>>
         ensures ok { IfOk result (λ message. Spells message bytes.now) }
-        ensures unreadable { IsErrOf result ReadError.Unreadable → (fields : List WireField) → Spells fields bytes.now → ⊥ }
+        ensures unreadable { IsErrOf result (Refusal.For (record {})) → (fields : List WireField) → Spells fields bytes.now → ⊥ }
     {
         let mut left = Fields::new(bytes);
         let mut fields = Vec::new(alloc);
-        while let Some(field) = left.next()? {
-            fields.push(field)?;
+        loop {
+            match left.next() {
+                Ok(Some(field)) => fields.push(field)?,
+                Ok(None) => return Ok(Message { fields }),
+                Err(_) => return Err(Refusal::For(Unreadable)),
+            }
         }
-        Ok(Message { fields })
     }
 
     /// A `uint32` field: the last that is given, or 0.
@@ -130,7 +134,7 @@ impl<'a> Message<'a> {
     }
 
     /// The bytes of each message, or each `bytes`, in a repeated field.
-    pub fn messages(&self, alloc: Global, number: u32) -> Result<Vec<&'a [u8]>, ReadError>
+    pub fn messages(&self, alloc: Global, number: u32) -> Result<Vec<&'a [u8]>, Refusal<Unreadable>>
         ensures { ReadsInMemory (λ list. map (λ x. x.now) list.items) result (messages_at number self.now) }
     {
         let mut found = Vec::new(alloc);
@@ -141,7 +145,7 @@ impl<'a> Message<'a> {
     }
 
     /// Each `string` in a repeated field, in UTF-8.
-    pub fn texts(&self, alloc: Global, number: u32) -> Result<Vec<&'a str>, ReadError>
+    pub fn texts(&self, alloc: Global, number: u32) -> Result<Vec<&'a str>, Refusal<Unreadable>>
         ensures { ReadsInMemory (λ list. map (λ x. x.now) list.items) result (texts_at number self.now) }
     {
         let mut found = Vec::new(alloc);
@@ -152,7 +156,7 @@ impl<'a> Message<'a> {
     }
 
     /// Each `uint32` in a repeated field, singly or packed.
-    pub fn uint32s(&self, alloc: Global, number: u32) -> Result<Vec<u32>, ReadError>
+    pub fn uint32s(&self, alloc: Global, number: u32) -> Result<Vec<u32>, Refusal<Unreadable>>
         ensures { ReadsInMemory (λ list. list.items) result (uint32s_at number self.now) }
     {
         let mut found = Vec::new(alloc);

@@ -7,8 +7,9 @@ ghost use Rattle.wire_messages.specs.Message.{bytes_of, number_at};
 ghost use Rattle.wire_messages.specs.Numbers.{as_uint32, as_uint64, as_int32, as_int64, as_bool};
 ghost use Rattle.wire_messages.specs.Scans.{text_of, last_from, all_from, one_from, packed_from, numbers_from};
 
-use crate::errors::{ReadError, Unreadable};
+use crate::errors::Unreadable;
 use crate::values;
+use list_types::Refusal;
 use wire_fields::{Field, varint};
 
 #[tactic(auto, unfolding(crate::specs::Message::number_at))]
@@ -108,7 +109,7 @@ pub(crate) fn push_bytes<'a>(
     found: &mut Vec<&'a [u8]>,
     field: Field<'a>,
     number: u32,
-) -> Result<(), ReadError>
+) -> Result<(), Refusal<Unreadable>>
     ensures { ReadsInMemory (λ _. map (λ x. x.now) found.new.items) result (all_from bytes_of number (map (λ x. x.now) found.old.items) (field_of field.entry ∷ [])) }
 {
     if values::number_of(field) == number {
@@ -121,7 +122,7 @@ pub(crate) fn push_text<'a>(
     found: &mut Vec<&'a str>,
     field: Field<'a>,
     number: u32,
-) -> Result<(), ReadError>
+) -> Result<(), Refusal<Unreadable>>
     ensures { ReadsInMemory (λ _. map (λ x. x.now) found.new.items) result (all_from text_of number (map (λ x. x.now) found.old.items) (field_of field.entry ∷ [])) }
 {
     if values::number_of(field) == number {
@@ -130,12 +131,14 @@ pub(crate) fn push_text<'a>(
     Ok(())
 }
 
-pub(crate) fn push_packed(found: &mut Vec<u32>, bytes: &[u8]) -> Result<(), ReadError>
+pub(crate) fn push_packed(found: &mut Vec<u32>, bytes: &[u8]) -> Result<(), Refusal<Unreadable>>
     ensures { ReadsInMemory (λ _. found.new.items) result (packed_from found.old.items bytes.now) }
 {
     let mut left = bytes;
     while !left.is_empty() {
-        let (value, rest) = varint(left)?;
+        let Ok((value, rest)) = varint(left) else {
+            return Err(Refusal::For(Unreadable));
+        };
         found.push(values::uint32(value)?)?;
         left = rest;
     }
@@ -146,7 +149,7 @@ pub(crate) fn push_numbers(
     found: &mut Vec<u32>,
     field: Field<'_>,
     number: u32,
-) -> Result<(), ReadError>
+) -> Result<(), Refusal<Unreadable>>
     ensures { ReadsInMemory (λ _. found.new.items) result (numbers_from number found.old.items (field_of field.entry ∷ [])) }
 {
     if values::number_of(field) != number {
@@ -158,6 +161,6 @@ pub(crate) fn push_numbers(
             Ok(())
         }
         Field::Bytes { bytes, .. } => push_packed(found, bytes),
-        _ => Err(ReadError::Unreadable),
+        _ => Err(Refusal::For(Unreadable)),
     }
 }

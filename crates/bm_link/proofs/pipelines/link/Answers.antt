@@ -15,4 +15,4 @@ pub returns-in-Ok : goal.returns-in-Ok
 returns-in-Ok c = links c.args.json.now c.args.info.now c.in-Ok.raw c.link_raw.result c.in-Ok.ensures.0 c.in-Ok.ensures.1 c.link_raw.ensures
 
 pub returns-in-Err : goal.returns-in-Err
-returns-in-Err c = subst (λ r. IsRefused r (program_flaw c.args.json.now c.args.info.now)) (sym c.refusal_of.ensures) (refused c.args.json.now c.args.info.now c.in-Err.error c.in-Err.ensures)
+returns-in-Err c = subst (λ r. IsRefused r (program_flaw c.args.json.now c.args.info.now)) (sym c.refusal_of.ensures) (refused c.args.json.now c.args.info.now c.in-Err.refusal c.in-Err.ensures)

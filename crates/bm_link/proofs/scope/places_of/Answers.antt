@@ -1,5 +1,5 @@
 use Rattle.std.proofs.Common.{◌==◌, ap, ◌∙◌, arith}
-use Rattle.bm_link.proofs.Pushes.{place_more}
+use Rattle.name_index.proofs.Firsts.{place_more}
 use Rattle.bm_link.proofs.scope.places_of.Goals as goal
 
 pub loop-place-preserved : goal.loop-place-preserved

@@ -1,7 +1,7 @@
 use Rattle.std.proofs.Common.{◌≡◌, ◌==◌, Some, None, sym, ◌∙◌, option_copied, rules}
 use Rattle.std.specs.List.{slice_get}
 use Rattle.std.proofs.lemmas.Option.{gets}
-use Rattle.bm_link.proofs.Standing.{at_place}
+use Rattle.name_index.proofs.Firsts.{at_place}
 use Rattle.bm_link.proofs.tables.action_at.Goals as goal
 
 pub returns-in-Some : goal.returns-in-Some

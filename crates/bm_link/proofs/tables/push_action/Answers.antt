@@ -2,7 +2,7 @@ use Rattle.std.proofs.Common.{ap, ap₂, ◌∙◌, get_or, option_copied}
 use Rattle.bm_pipeline.specs.declared.tables.TableAction.{TableAction}
 use Rattle.bm_rules.specs.Names.{named}
 use Rattle.link_spec.specs.Tables.{action_place, next_by}
-use Rattle.bm_link.specs.Places.{at_name}
+use Rattle.name_index.specs.Places.{at_name}
 use Rattle.bm_link.specs.Sides.{side_of}
 use Rattle.bm_link.proofs.Pushes.{actions_next}
 use Rattle.bm_link.proofs.tables.push_action.Goals as goal

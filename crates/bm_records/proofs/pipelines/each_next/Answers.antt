@@ -1,7 +1,7 @@
 use Rattle.std.proofs.Common.{◌≡◌, ◌++◌, Some, string_bytes, sym, ap, ◌∙◌, subst}
 use Rattle.serde_json.specs.View.{view, members_view}
 use Rattle.serde_json.proofs.Views.{Entry}
-use Rattle.json_shapes.specs.Shapes.{◌>>=◌}
+use Rattle.list_types.specs.Options.{◌>>=◌}
 use Rattle.bm_records.specs.Pipelines.{next_table, each_next}
 use Rattle.bm_records.proofs.Nexts.{one_more}
 use Rattle.bm_records.proofs.pipelines.each_next.Goals as goal

@@ -1,6 +1,6 @@
 use Rattle.std.proofs.Common.{◌≡◌, ◌++◌, Some}
 use Rattle.serde_json.specs.View.{members_view}
-use Rattle.json_shapes.specs.Shapes.{◌>>=◌}
+use Rattle.list_types.specs.Options.{◌>>=◌}
 use Rattle.bm_records.specs.Pipelines.{each_next}
 use Rattle.bm_records.proofs.pipelines.each_next.Given as goal
 

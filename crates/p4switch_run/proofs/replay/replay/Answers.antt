@@ -1,4 +1,5 @@
 use Rattle.std.proofs.Common.{Err, refl, ap, inr}
+use Rattle.list_types.specs.declared.memory.Refusal.{Refusal}
 use Rattle.tape_form.specs.declared.fault.TapeFault.{TapeFault}
 use Rattle.sw_edge.proofs.ToldLaws.{Keeps-refl}
 use Rattle.p4switch_run.specs.Replay.{streams}
@@ -9,7 +10,7 @@ pub returns-in-Err-clause-answers : goal.returns-in-Err-clause-answers
 returns-in-Err-clause-answers g c =
     let old = streams (g.S.Source.left c.args.tape.now) (g.O.Sink.sent c.args.out.now) (g.S.Source.faults c.args.tape.now) (g.O.Sink.faults c.args.out.now) (g.S.Source.ends c.args.tape.now) in
     let new = streams (g.S.Source.left c.read.new.source) (g.O.Sink.sent c.args.out.now) (g.S.Source.faults c.read.new.source) (g.O.Sink.faults c.args.out.now) (g.S.Source.ends c.read.new.source) in
-    rw c.of_fault.ensures (not_read c.args.mode c.args.start c.in-Err.fault old new (Keeps-refl (g.O.Sink.sent c.args.out.now)) refl c.in-Err.ensures.exact (λ e. c.in-Err.ensures.hides_nothing (ap (λ (f : TapeFault). Err f) e)))
+    rw c.of_fault.ensures (not_read c.args.mode c.args.start c.in-Err.fault old new (Keeps-refl (g.O.Sink.sent c.args.out.now)) refl c.in-Err.ensures.exact (λ e. c.in-Err.ensures.hides_nothing (ap (λ (f : Refusal TapeFault). Err f) e)))
 
 pub returns-in_default-clause-answers : goal.returns-in_default-clause-answers
 returns-in_default-clause-answers g c = record {

@@ -1,5 +1,6 @@
 use Rattle.std.proofs.Common.{◌≡◌, ◌++◌, map, drop, Some}
-use Rattle.wire_messages.specs.Message.{◌>>=◌, each}
+use Rattle.list_types.specs.Options.{◌>>=◌}
+use Rattle.wire_messages.specs.Message.{each}
 use Rattle.p4v1_read.specs.Nested.{read}
 use Rattle.p4v1_read.proofs.reading.each_of.Given as goal
 

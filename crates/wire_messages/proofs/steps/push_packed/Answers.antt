@@ -7,22 +7,20 @@ use Rattle.wire_messages.proofs.steps.push_packed.Goals as goal
 pub loop-left-init : goal.loop-left-init
 loop-left-init c = packed_start _ _
 
-pub returns-in_err-value : goal.returns-in_err-value
-returns-in_err-value c =
-    let p = err_from_is_err_and c.from_residual.result c.from_residual.ensures.1 in
-    rw (p.1, p.2) (packed_fault _ _ _ _ c.loop-left.invariant (search rules) c.in_err-value.ensures)
+pub returns-in_default : goal.returns-in_default
+returns-in_default c = packed_fault _ _ _ _ c.loop-left.invariant (search rules) c.in_default.ensures
 
 pub returns-in_err-uint32 : goal.returns-in_err-uint32
 returns-in_err-uint32 c =
-    let p = err_from_is_err_and c.from_residual-in_err-uint32.result c.from_residual-in_err-uint32.ensures.1 in
-    rw (p.1, p.2) (packed_range _ _ _ _ _ c.loop-left.invariant (search rules) c.in_ok-value.ensures c.in_err-uint32.ensures)
+    let p = err_from_is_err_and c.from_residual.result c.from_residual.ensures.1 in
+    rw (p.1, p.2) (packed_range _ _ _ _ _ c.loop-left.invariant (search rules) c.in-Ok.ensures c.in_err-uint32.ensures)
 
 pub loop-left-smaller : goal.loop-left-smaller
-loop-left-smaller c = varint_shorter _ _ _ c.in_ok-value.ensures
+loop-left-smaller c = varint_shorter _ _ _ c.in-Ok.ensures
 
 pub loop-left-preserved : goal.loop-left-preserved
 loop-left-preserved c =
-    rw c.in_ok-push.ensures.items (packed_next _ _ _ _ _ _ c.loop-left.invariant (search rules) c.in_ok-value.ensures (varint_shorter _ _ _ c.in_ok-value.ensures) c.in_ok-uint32.ensures)
+    rw c.in_ok-push.ensures.items (packed_next _ _ _ _ _ _ c.loop-left.invariant (search rules) c.in-Ok.ensures (varint_shorter _ _ _ c.in-Ok.ensures) c.in_ok-uint32.ensures)
 
 pub returns : goal.returns
 returns c = packed_end _ _ _ c.loop-left.invariant (search rules)

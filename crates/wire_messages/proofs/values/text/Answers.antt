@@ -1,6 +1,7 @@
 use Rattle.std.proofs.Common.{ap, ◌∙◌}
 use Rattle.wire_messages.proofs.Scanning.{is_text, no_text}
-use Rattle.wire_messages.specs.Message.{◌>>=◌, as_text}
+use Rattle.list_types.specs.Options.{◌>>=◌}
+use Rattle.wire_messages.specs.Message.{as_text}
 use Rattle.wire_messages.proofs.values.text.Goals as goal
 
 pub returns-in-Ok : goal.returns-in-Ok

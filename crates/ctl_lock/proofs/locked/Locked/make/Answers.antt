@@ -7,7 +7,7 @@ use Rattle.ctl_lock.specs.declared.signed.Signed.{Signed}
 use Rattle.lane_table.specs.Lanes.{Journal, with_entry}
 use Rattle.p4_types.specs.declared.calls.Reply.{Reply}
 use Rattle.plane_spec.specs.Config.{Event}
-use Rattle.plane_spec.specs.Planes.{Control, opened, applied}
+use Rattle.plane_spec.specs.Planes.{ControlState, opened, applied}
 use Rattle.pub_snap.specs.Beginnings.{Beginning}
 use Rattle.pub_snap.specs.Snapshots.{all_of}
 use Rattle.run_press.proofs.StepsBehind.{if_ok_as}
@@ -46,7 +46,7 @@ invariant_of-self-2 g c =
     λ there asks. sees_by c.args.read.now c.args.call c.args.figures c.args.self.now.core.control.next_slot c.reply-reply.result.code c.requires.read c.reply-reply.ensures.refused c.requires.drawn
     (ap (λ (r : Reply). is_unavailable r.code) (sym entered.reply_is) ∙ there) asks ∙ sym slots in
     let all : SeeAll (opened start) (items ++ signed ∷ []) =
-    see_more (opened start) items signed c.self.invariant.3 (subst (λ (x : Control). SeesAll x signed) (sym state) sees) in
+    see_more (opened start) items signed c.self.invariant.3 (subst (λ (x : ControlState). SeesAll x signed) (sym state) sees) in
     let P : List Event → Type 0 = λ l. IsStanding start l c.reply-reply.new.control (journal_of items ++ made_of signed ∷ []) in
     let Q : List Made → Type 0 = λ l. IsStanding start (all_of c.publish.new.self) c.reply-reply.new.control l in (
       c.publish.ensures.pending,

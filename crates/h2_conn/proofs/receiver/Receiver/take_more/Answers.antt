@@ -1,4 +1,4 @@
-use Rattle.std.proofs.Common.{sym, ap, ◌∙◌, arith}
+use Rattle.std.proofs.Common.{ap, ◌∙◌, arith}
 use Rattle.h2_conn.specs.Continuations.{with_continuation}
 use Rattle.h2_conn.proofs.Continuations.{in_order, fits, kept_more, settles_more, settles_plain}
 use Rattle.h2_conn.proofs.receiver.Receiver.take_more.Goals as goal

@@ -3,11 +3,12 @@ use Rattle.std.proofs.Common.{◌≡◌, ℕ, zero, suc, ◌<◌, ◌≤◌, tru
 use Rattle.std.specs.Result.{result_ok}
 use Rattle.std.proofs.lemmas.Bool.Decides.{nat_tests}
 use Rattle.wire_fields.specs.Reading.{varint_at}
-use Rattle.wire_messages.specs.Message.{◌>>=◌, packed_in}
+use Rattle.list_types.specs.Options.{◌>>=◌}
+use Rattle.wire_messages.specs.Message.{packed_in}
 use Rattle.wire_messages.specs.Numbers.{as_uint32}
 use Rattle.wire_messages.specs.Scans.{packed_from}
 use Rattle.wire_messages.proofs.Packed.{Packed}
-use Rattle.role_arbiter.specs.Configuration.{at_most_128, ids_in}
+use Rattle.p4v1_read.specs.RoleConfigs.{at_most_128, ids_in}
 
 clash : (values : List ℕ) → None ≡ Some values → ⊥
 clash values e = cc

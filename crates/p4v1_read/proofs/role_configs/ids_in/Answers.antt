@@ -1,8 +1,8 @@
 use Rattle.std.proofs.Common.{rules}
 use Rattle.wire_fields.proofs.Varints.{varint_shorter}
 use Rattle.wire_messages.proofs.Packed.{packed_fault, packed_range, packed_next, packed_end}
-use Rattle.role_arbiter.proofs.PackedIds.{ids_refused, ids_read, ids_too_many, full_is, more_are_few}
-use Rattle.role_arbiter.proofs.configuration.ids_in.Goals as goal
+use Rattle.p4v1_read.proofs.PackedIds.{ids_refused, ids_read, ids_too_many, full_is, more_are_few}
+use Rattle.p4v1_read.proofs.role_configs.ids_in.Goals as goal
 
 pub returns-in_default : goal.returns-in_default
 returns-in_default c = ids_refused _ (packed_fault _ _ _ _ c.loop-left.invariant.0 (search rules) c.in_default.ensures)

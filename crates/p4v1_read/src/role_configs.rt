@@ -1,7 +1,7 @@
-//! The role of an update, and its configuration.
+//! The configuration of a role.
 ghost use Rattle.std.specs.Prelude.{◌≡◌};
 ghost use Rattle.wire_messages.specs.Answers.{Reads};
-ghost use Rattle.role_arbiter.specs.Configuration.{role_of, ids_in, ids_of, config_of};
+ghost use Rattle.p4v1_read.specs.RoleConfigs.{ids_in, ids_of, role_config_of};
 ghost use Rattle.wire_messages.specs.Numbers.{as_uint32};
 
 use p4_types::ids::Ids;
@@ -10,15 +10,6 @@ use wire_fields::varint;
 use wire_messages::Unreadable;
 
 const TYPE_URL: &str = "p4switch/ids";
-
-pub(crate) fn role_of(role: &Option<Role>) -> u64
-    ensures { result ≡ role_of role.now }
-{
-    match role {
-        None => 0,
-        Some(role) => role.id,
-    }
-}
 
 fn uint32(value: u64) -> Option<u32>
     ensures { result ≡ as_uint32 value }
@@ -61,8 +52,11 @@ fn ids_of(config: &Any) -> Result<Ids, Unreadable>
     }
 }
 
-pub(crate) fn config_of(role: &Option<Role>) -> Result<Option<Ids>, Unreadable>
-    ensures { Reads (λ config. config) result (config_of role.now) }
+/// The ids of the configuration that an update gives its role, as packed `uint32` numbers of the type
+/// `p4switch/ids`, at most 128; none where it gives none. Role 0 may have no configuration, and another type is not
+/// read (P4Runtime 1.3.0, "Role Config").
+pub fn role_config_of(role: &Option<Role>) -> Result<Option<Ids>, Unreadable>
+    ensures { Reads (λ config. config) result (role_config_of role.now) }
 {
     let Some(role) = role else {
         return Ok(None);

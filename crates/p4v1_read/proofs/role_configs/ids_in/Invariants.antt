@@ -1,7 +1,7 @@
 use Rattle.std.proofs.Common.{[], length, ◌≤◌}
 use Rattle.wire_messages.specs.Scans.{packed_from}
 use Rattle.wire_messages.proofs.Packed.{Packed}
-use Rattle.role_arbiter.proofs.configuration.ids_in.Given as goal
+use Rattle.p4v1_read.proofs.role_configs.ids_in.Given as goal
 
 abbrev pub invariant-loop-left : goal.invariant-loop-left
 invariant-loop-left l = Packed l.left l.ids (packed_from [] l.value) × (length l.ids ≤ 128)

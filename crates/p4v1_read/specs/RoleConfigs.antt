@@ -1,15 +1,11 @@
--- The role of an update, and the ids of its configuration (P4Runtime 1.3.0, "Role Config"; the form of a configuration: this project's profile).
+-- The ids of a role's configuration (P4Runtime 1.3.0, "Role Config"; the form of a configuration: this project's profile).
 use Rattle.std.specs.Prelude.{ℕ, ◌==◌, nat_lt, if◌then◌else◌, List, length, Option, Some, None, codes}
 use Rattle.std.specs.Str.{bytes_eq}
 use Rattle.p4_types.specs.declared.messages.Any.{Any}
 use Rattle.p4_types.specs.declared.messages.Role.{Role}
-use Rattle.wire_messages.specs.Message.{◌>>=◌, packed_in}
+use Rattle.list_types.specs.Options.{◌>>=◌}
+use Rattle.wire_messages.specs.Message.{packed_in}
 use Rattle.wire_messages.specs.Numbers.{as_uint32}
-
--- the role that an update names; without one it is 0
-abbrev pub role_of : Option Role → ℕ
-role_of None = 0
-role_of (Some role) = role.id
 
 -- no more ids than a configuration may have
 abbrev pub at_most_128 : List ℕ → Option (List ℕ)
@@ -24,11 +20,11 @@ abbrev pub ids_of : Any → Option (List ℕ)
 ids_of config = if bytes_eq config.type_url (codes "p4switch/ids") then ids_in config.value else None
 
 -- role 0 may have no configuration
-abbrev pub config_in : ℕ → Option Any → Option (Option (List ℕ))
-config_in role None = Some None
-config_in role (Some config) = if role == 0 then None else ids_of config >>= λ ids. Some (Some ids)
+abbrev pub role_config_in : ℕ → Option Any → Option (Option (List ℕ))
+role_config_in role None = Some None
+role_config_in role (Some config) = if role == 0 then None else ids_of config >>= λ ids. Some (Some ids)
 
 -- the configuration that an update gives its role, or none, where it is read
-abbrev pub config_of : Option Role → Option (Option (List ℕ))
-config_of None = Some None
-config_of (Some role) = config_in role.id role.config
+abbrev pub role_config_of : Option Role → Option (Option (List ℕ))
+role_config_of None = Some None
+role_config_of (Some role) = role_config_in role.id role.config
