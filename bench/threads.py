@@ -6,9 +6,10 @@ packets of 34 bytes, each on a route of its own and all on one route, and then e
 them, beside no writer and beside one that replaces a route as fast as it can. Before that it lets three readers look at
 snapshots while a writer replaces two routes at once 100,000 times: none may be torn, and none older than the one before.
 PROGRAM is crates/desk_speed (default: the built one), which measures inside of the process, and CONFIG the router's
-(default: as `bin/p4config` makes it). Each worker runs N packets (default: 200,000) and enters 20 * N snapshots; of three
-runs the shortest counts. An entry is also told beside an uncontended addition to an atomic word in the same run. Times are
-of this machine; the ratios are what to quote, with how many hardware threads there are.
+(default: as `bin/p4config` makes it). Each worker runs N packets (default: 1,000,000) and enters 4 * N snapshots; of three
+runs the shortest counts. Workers are also told beside as many processes of one worker each, which share nothing but the
+machine, and an entry beside an uncontended addition to an atomic word in the same run. Times are of this machine; the
+ratios are what to quote, with how many hardware threads there are.
 """
 import os
 import re
@@ -61,15 +62,29 @@ def run(program, words, data):
     return subprocess.run([program, *words], input=data, stdout=subprocess.PIPE, check=True).stdout.decode()
 
 
+def told(text, workers, times):
+    """The microseconds that the work took, the writer's calls a second and the microseconds of as many additions."""
+    ok, ran, done, took, written, _, added = map(int, TOLD.fullmatch(text).groups())
+    if (ok, ran, done) != (3, workers, workers * times):
+        sys.exit("%d of 3 calls OK, %d of %d workers, %d of %d done" % (ok, ran, workers, done, workers * times))
+    return took, written / took * 1e6, added
+
+
 def least(program, word, data, workers, times):
-    """The microseconds that the work took, the writer's calls a second and the microseconds of as many additions, of the shortest run."""
-    runs = []
-    for _ in range(ROUNDS):
-        ok, ran, done, took, written, _, added = map(int, TOLD.fullmatch(run(program, [word, str(times)], data)).groups())
-        if (ok, ran, done) != (3, workers, workers * times):
-            sys.exit("%d of 3 calls OK, %d of %d workers, %d of %d done" % (ok, ran, workers, done, workers * times))
-        runs.append((took, written / took * 1e6, added))
-    return min(runs)
+    """The same of the shortest of some runs."""
+    return min(told(run(program, [word, str(times)], data), workers, times) for _ in range(ROUNDS))
+
+
+def apart(program, data, count, times):
+    """The packets a second of so many processes at once that have a worker each and share nothing."""
+    running = [subprocess.Popen([program, "packets", str(times)], stdin=subprocess.PIPE, stdout=subprocess.PIPE) for _ in range(count)]
+    for one in running:
+        one.stdin.write(data)
+        one.stdin.close()
+    texts = [one.stdout.read().decode() for one in running]
+    if any(one.wait() for one in running):
+        sys.exit("a process failed")
+    return sum(times / told(text, 1, times)[0] * 1e6 for text in texts)
 
 
 def beside(written, calls):
@@ -77,15 +92,18 @@ def beside(written, calls):
 
 
 def packets(program, config, name, shared, times):
-    first, alone = None, {}
-    for written in (False, True):
-        for workers in WORKERS:
-            took, calls, _ = least(program, "packets", measuring(config, workers, shared, written), workers, times)
-            rate = workers * times / took * 1e6
-            first = first or rate
-            alone.setdefault(workers, rate)
-            print("%s, %d workers %s: %.0f packets a second, %.2f times one alone, %.2f of those beside no writer"
-                  % (name, workers, beside(written, calls), rate, rate / first, rate / alone[workers]), flush=True)
+    first = None
+    for workers in WORKERS:
+        rates, apart_rates, written_rates = [], [], []
+        for _ in range(ROUNDS):
+            for written, into in ((False, rates), (True, written_rates)):
+                took, calls, _ = told(run(program, ["packets", str(times)], measuring(config, workers, shared, written)), workers, times)
+                into.append((workers * times / took * 1e6, calls))
+            apart_rates.append(apart(program, measuring(config, 1, shared, False), workers, times))
+        rate, (written_rate, calls) = max(rates)[0], max(written_rates)
+        first = first or rate
+        print("%s, %d workers: %.0f packets a second, %.2f times one, %.2f times as many processes with one each; %s: %.2f times those beside none"
+              % (name, workers, rate, rate / first, rate / max(apart_rates), beside(True, calls), written_rate / rate), flush=True)
 
 
 def entries(program, config, times):
@@ -99,7 +117,7 @@ def entries(program, config, times):
 def main():
     program, words = program_given("desk_speed")
     config = open(words.pop(0), "rb").read() if words and not words[0].isdigit() else router()
-    times = int(words[0]) if words else 200000
+    times = int(words[0]) if words else 1000000
     print("%d hardware threads, %d routes" % (os.cpu_count(), ROUTES))
     looked = run(program, ["look", str(TURNS)], looking(config))
     print(looked, end="", flush=True)
@@ -107,7 +125,7 @@ def main():
         sys.exit(1)
     packets(program, config, "entries of their own", False, times)
     packets(program, config, "all on one entry", True, times)
-    entries(program, config, 20 * times)
+    entries(program, config, 4 * times)
 
 
 if __name__ == "__main__":

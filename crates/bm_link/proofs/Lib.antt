@@ -1,3 +1,4 @@
 pub mod Standing
 pub mod Pushes
 pub mod Answered
+pub mod Sums

@@ -1,5 +1,5 @@
 //! The headers of a program.
-ghost use Rattle.std.specs.Prelude.{◌≡◌, ◌+◌, ◌<◌, length, map, take, slice_get, sum, IfOk, OnOk};
+ghost use Rattle.std.specs.Prelude.{◌≡◌, ◌+◌, ◌^◌, ◌<◌, ◌≤◌, length, map, take, slice_get, sum, IfOk, IfErr, OnOk};
 ghost use Rattle.bm_values.specs.Literals.{width_bits};
 ghost use Rattle.link_spec.specs.Fields.{header_of, headers_from, fields_before, standard_field, standard_metadata_of};
 
@@ -22,8 +22,10 @@ fn widths_of(alloc: Global, fields: &[TypeField]) -> Result<List<u32>, NoMemory>
 }
 
 // Bits that no number counts have no memory either.
+#[tactic(auto, using(crate::proofs::Sums::exceeded))]
 fn bits_in(widths: &[u32]) -> Result<usize, NoMemory>
-    ensures { IfOk result (λ bits. bits ≡ sum widths.now) }
+    ensures bits { IfOk result (λ bits. bits ≡ sum widths.now) }
+    ensures refused { IfErr result (λ _. 2 ^ 64 ≤ sum widths.now) }
 {
     let mut bits: usize = 0;
     for width in widths {

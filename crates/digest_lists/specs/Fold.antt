@@ -1,5 +1,5 @@
 -- The digests that are set, by rising id, and what the calls do to them (this project's profile).
-use Rattle.std.specs.Prelude.{ℕ, ◌==◌, ◌≤◌, nat_lt, Bool, ◌||◌, not, if◌then◌else◌, List, [], ◌∷◌, ◌++◌, length, filter, Option, Some, None}
+use Rattle.std.specs.Prelude.{◌≡◌, ℕ, ◌==◌, ◌≤◌, nat_lt, Bool, false, ◌||◌, not, if◌then◌else◌, List, [], ◌∷◌, ◌++◌, length, filter, Option, Some, None, IsSomeAnd}
 use Rattle.std.specs.List.{find, list_any, fold}
 use Rattle.std.specs.Option.{option_map, option_and_then, option_to_list}
 use Rattle.p4_types.specs.declared.messages.DigestConfig.{DigestConfig}
@@ -7,7 +7,7 @@ use Rattle.p4_types.specs.declared.messages.DigestEntry.{DigestEntry}
 use Rattle.p4_types.specs.declared.messages.DigestList.{DigestList}
 use Rattle.p4_types.specs.declared.messages.P4Data.{P4Data}
 use Rattle.digest_lists.specs.State.{DigestState, new_digest}
-use Rattle.digest_lists.specs.Sending.{is_due, list_of, after_sending, sent_by_sample, after_sample, after_ack}
+use Rattle.digest_lists.specs.Sending.{is_passed_over, is_due, list_of, after_sending, sent_by_sample, after_sample, after_ack}
 
 -- the first digest that passes a test is changed
 abbrev pub change_first : (DigestState → Bool) → (DigestState → DigestState) → List DigestState → List DigestState
@@ -52,6 +52,10 @@ with_entry digests entry = if has_room digests entry.digest_id then with_config 
 -- the digests that entries name are set, with their configurations, and all that is kept of others is forgotten
 abbrev pub set_to : List DigestState → List DigestEntry → List DigestState
 set_to digests entries = fold with_entry (filter (λ digest. names entries digest.id) digests) entries
+
+-- a sample is taken: its digest is set and does not pass it over
+abbrev pub IsTaken : List DigestState → ℕ → P4Data → ℕ → Type 0
+IsTaken digests id content now = IsSomeAnd (find (λ digest. digest.id == id) digests) (λ digest. is_passed_over digest content now ≡ false)
 
 -- a sample of a digest that is not set is passed over
 abbrev pub take_sample : List DigestState → ℕ → P4Data → ℕ → List DigestState

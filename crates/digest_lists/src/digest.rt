@@ -1,5 +1,5 @@
 //! One digest that is set.
-ghost use Rattle.std.specs.Prelude.{◌≡◌, ◌==◌, ◌++◌, [], ◌∷◌, ◌<◌, ◌≤◌, not, vec_len, vec_capacity, length, filter, take, drop, IfOk, OnOk, OnErr};
+ghost use Rattle.std.specs.Prelude.{◌≡◌, ◌==◌, ◌++◌, [], ◌∷◌, ◌<◌, ◌≤◌, false, not, vec_len, vec_capacity, length, filter, take, drop, IfOk, OnOk, OnErr};
 ghost use Rattle.digest_lists.specs.State.{natural, list_size, new_digest};
 ghost use Rattle.digest_lists.specs.Sending.{is_fresh, is_passed_over, is_full, first_is_old, is_due, list_of, newest_64, after_sending, sent_by_sample, after_sample, after_ack, timestamp_of};
 
@@ -175,7 +175,7 @@ impl Digest {
         })
     }
 
-    /// Takes a sample, and sends the list that it makes due. Without memory nothing changes.
+    /// Takes a sample, and sends the list that it makes due. Without memory nothing changes. A sample that is passed over asks for none.
     pub(crate) fn sample(
         &mut self,
         alloc: Global,
@@ -185,6 +185,7 @@ impl Digest {
         ensures sent { IfOk result (λ sent. sent ≡ sent_by_sample self.old content now) }
         ensures state { OnOk result (self.new ≡ after_sample self.old content now) }
         ensures kept { OnErr result (self.new ≡ self.old) }
+        ensures taken { OnErr result (is_passed_over self.old content now ≡ false) }
     {
         if self.passes_over(&content, now) {
             return Ok(None);

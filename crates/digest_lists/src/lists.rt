@@ -1,11 +1,11 @@
 //! The digests that are set.
-ghost use Rattle.std.specs.Prelude.{◌≡◌, ◌==◌, ◌<◌, ◌≤◌, [], not, length, filter, position, nat_lt, slice_get, vec_len, vec_capacity, Some, IfOk, OnOk, OnErr};
+ghost use Rattle.std.specs.Prelude.{◌≡◌, ◌==◌, ◌<◌, ◌≤◌, [], not, length, filter, position, nat_lt, slice_get, vec_len, vec_capacity, Some, None, Ok, IfOk, OnOk, OnErr};
 ghost use Rattle.std.specs.List.{fold, position_or_len};
 ghost use Rattle.std.specs.Option.{option_copied};
 ghost use Rattle.digest_lists.specs.State.{ids_of};
 ghost use Rattle.digest_lists.specs.Sending.{is_due};
 ghost use Rattle.digest_lists.specs.Laws.{IsSound};
-ghost use Rattle.digest_lists.specs.Fold.{HasRoom, has_room, inserted, is_set, names, with_config, with_entry, set_digest, set_to, take_sample, sent_at_sample, acknowledge, send_due, sent_at_tick};
+ghost use Rattle.digest_lists.specs.Fold.{HasRoom, IsTaken, has_room, inserted, is_set, names, with_config, with_entry, set_digest, set_to, take_sample, sent_at_sample, acknowledge, send_due, sent_at_tick};
 
 use crate::digest::Digest;
 use list_types::NoMemory;
@@ -202,7 +202,8 @@ impl Lists {
     }
 
     /// Takes a sample of a digest at a moment, in nanoseconds, and gives the list that is sent, if it
-    /// makes one due. Without memory nothing changes, and the sample is lost.
+    /// makes one due. Without memory nothing changes, and the sample is lost. Where its digest is not set, and where the sample
+    /// is passed over, no memory is asked for.
     pub fn sample(
         &mut self,
         digest: u32,
@@ -212,6 +213,7 @@ impl Lists {
         ensures sent { IfOk result (λ sent. sent ≡ sent_at_sample self.old digest sample now) }
         ensures state { OnOk result (self.new ≡ take_sample self.old digest sample now) }
         ensures kept { OnErr result (self.new ≡ self.old) }
+        ensures taken { OnErr result (IsTaken self.old digest sample now) }
     {
         match place_of(&self.digests, digest) {
             Some(place) => self.digests[place].sample(self.alloc, sample, now),
@@ -231,6 +233,7 @@ impl Lists {
     /// Gives the list of the lowest digest that is due at a moment, in nanoseconds, if one is.
     /// Without memory nothing changes.
     pub fn tick(&mut self, now: u64) -> Result<Option<DigestList>, NoMemory>
+        ensures none_due { sent_at_tick self.old now ≡ None → result ≡ Ok None }
         ensures sent { IfOk result (λ sent. sent ≡ sent_at_tick self.old now) }
         ensures state { OnOk result (self.new ≡ send_due self.old now) }
         ensures kept { OnErr result (self.new ≡ self.old) }

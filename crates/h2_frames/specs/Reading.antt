@@ -143,6 +143,10 @@ frame_at head payload =
     else if head.kind == 9 then continuation_at head payload
     else Ok (unknown_at head payload)
 
+-- whether memory is asked for: the payload is copied, or its settings are listed
+abbrev pub asks_memory : Head → Bool
+asks_memory head = not (head.kind == 2 || head.kind == 3 || head.kind == 6 || head.kind == 8)
+
 -- The frame that bytes are: nine bytes of head, and the rest is its payload.
 abbrev pub read : List ℕ → Result Frame H2Code
 read bytes = frame_at (head_at (take 9 bytes)) (drop 9 bytes)

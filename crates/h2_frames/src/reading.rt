@@ -1,8 +1,8 @@
 //! Reading the payload of a frame by its head.
-ghost use Rattle.std.specs.Prelude.{◌≡◌, ◌+◌, ◌*◌, ◌/◌, ◌%◌, ◌^◌, ◌<◌, ◌≤◌, ◌∷◌, length, take, drop, if◌then◌else◌, true, false, Ok, IfOk};
+ghost use Rattle.std.specs.Prelude.{◌≡◌, ◌==◌, ◌||◌, Err, ◌+◌, ◌*◌, ◌/◌, ◌%◌, ◌^◌, ◌<◌, ◌≤◌, ◌∷◌, length, take, drop, if◌then◌else◌, true, false, Ok, IfOk};
 ghost use Rattle.std.specs.List.{list_any};
 ghost use Rattle.list_types.specs.Results.{Gives, GivesExactly};
-ghost use Rattle.h2_frames.specs.Reading.{has, number_at, low_31_at, unpadded, priority_at, is_padded_data, setting_at, settings_in, unknown_at, breaks_protocol, breaks_flow_control, checked, data_at, headers_at, priority_frame_at, rst_stream_at, settings_at, push_promise_at, ping_at, goaway_at, window_update_at, continuation_at, frame_at};
+ghost use Rattle.h2_frames.specs.Reading.{has, number_at, low_31_at, unpadded, priority_at, is_padded_data, setting_at, settings_in, unknown_at, breaks_protocol, breaks_flow_control, checked, data_at, headers_at, priority_frame_at, rst_stream_at, settings_at, push_promise_at, ping_at, goaway_at, window_update_at, continuation_at, frame_at, asks_memory};
 ghost use Rattle.h2_frames.specs.Codes.{padded_flag, end_headers_flag};
 ghost use Rattle.h2_frames.specs.Layout.{payload_of};
 ghost use Rattle.h2_frames.specs.Laws.{NumbersFit};
@@ -256,7 +256,8 @@ fn checked(settings: &[Setting]) -> Result<(), H2Code>
 
 #[tactic(auto, unfolding(crate::specs::Reading::settings_at))]
 fn settings(alloc: Global, head: &Head, bytes: &[u8]) -> Result<Frame, Refusal<H2Code>>
-    ensures { Gives (λ x. x) result (settings_at head.now bytes.now) }
+    ensures exact { Gives (λ x. x) result (settings_at head.now bytes.now) }
+    ensures memory { result ≡ Err Refusal.NoMemory → (head.now.stream ≡ 0) × (length bytes.now % 6 ≡ 0) }
 {
     let ack = has(head.flags, ACK);
     if bytes.len() % 6 != 0 || (ack && !bytes.is_empty()) {
@@ -371,7 +372,9 @@ fn unknown(head: &Head, bytes: ByteList) -> Frame
 
 #[tactic(auto, unfolding(crate::specs::Reading::frame_at))]
 fn frame(alloc: Global, head: &Head, bytes: &[u8]) -> Result<Frame, Refusal<H2Code>>
-    ensures { Gives (λ x. x) result (frame_at head.now bytes.now) }
+    ensures exact { Gives (λ x. x) result (frame_at head.now bytes.now) }
+    ensures memory { result ≡ Err Refusal.NoMemory → asks_memory head.now ≡ true }
+    ensures settings { head.now.kind ≡ 4 → result ≡ Err Refusal.NoMemory → (head.now.stream ≡ 0) × (length bytes.now % 6 ≡ 0) }
 {
     match head.kind {
         0 => data(alloc, head, bytes),
@@ -395,6 +398,8 @@ fn frame(alloc: Global, head: &Head, bytes: &[u8]) -> Result<Frame, Refusal<H2Co
 pub fn read_payload(alloc: Global, head: &Head, bytes: &[u8]) -> Result<Frame, Refusal<H2Code>>
     requires whole { length bytes.now ≡ head.now.length }
     ensures exact { Gives (λ x. x) result (frame_at head.now bytes.now) }
+    ensures memory { result ≡ Err Refusal.NoMemory → asks_memory head.now ≡ true }
+    ensures settings { head.now.kind ≡ 4 → result ≡ Err Refusal.NoMemory → (head.now.stream ≡ 0) × (length bytes.now % 6 ≡ 0) }
     ensures fits { head.now.stream < 2 ^ 31 → IfOk result NumbersFit }
     ensures short { head.now.stream < 2 ^ 31 → IfOk result (λ frame. length (payload_of frame) ≤ length bytes.now) }
 {
@@ -422,7 +427,9 @@ fn gathered_data(head: &Head, bytes: ByteList) -> Result<Frame, H2Code>
 #[tactic(auto, unfolding(crate::specs::Reading::frame_at))]
 pub fn read_gathered(alloc: Global, head: &Head, bytes: ByteList) -> Result<Frame, Refusal<H2Code>>
     requires whole { length bytes ≡ head.now.length }
-    ensures { Gives (λ x. x) result (frame_at head.now bytes) }
+    ensures exact { Gives (λ x. x) result (frame_at head.now bytes) }
+    ensures memory { result ≡ Err Refusal.NoMemory → (head.now.kind == 4 || is_padded_data head.now) ≡ true }
+    ensures settings { head.now.kind ≡ 4 → result ≡ Err Refusal.NoMemory → (head.now.stream ≡ 0) × (length bytes % 6 ≡ 0) }
 {
     match head.kind {
         0 if !has(head.flags, PADDED) => Ok(gathered_data(head, bytes)?),

@@ -1,6 +1,6 @@
 //! A decoder of header blocks.
-ghost use Rattle.std.specs.Prelude.{◌≡◌, [], None, IfOk};
-ghost use Rattle.hpack_tables.specs.Blocks.{IsAnswer};
+ghost use Rattle.std.specs.Prelude.{◌≡◌, [], length, None, Err, IfOk};
+ghost use Rattle.hpack_tables.specs.Blocks.{IsAnswer, updates_in};
 
 use crate::fault::HpackFault;
 use crate::header::Header;
@@ -42,7 +42,8 @@ impl Decoder {
     /// The headers of a whole block, or the first fault in its order. What was read before a fault
     /// is lost, so a fault is answered again to each later block, and so is want of memory.
     pub fn block(&mut self, bytes: &[u8]) -> Result<List<Header>, Refusal<HpackFault>>
-        ensures { IsAnswer self.old.broken self.old self.new bytes.now result }
+        ensures answer { IsAnswer self.old.broken self.old self.new bytes.now result }
+        ensures updates { (fault : HpackFault) → self.old.broken ≡ None → updates_in (length bytes.now) self.old.table bytes.now ≡ Err fault → result ≡ Err (Refusal.For fault) }
     {
         if let Some(error) = self.broken {
             return Err(error);

@@ -1,5 +1,5 @@
 //! Reading the headers of a block (RFC 7541, sections 3 and 6).
-ghost use Rattle.std.specs.Prelude.{◌≡◌, ◌≤◌, length, Ok};
+ghost use Rattle.std.specs.Prelude.{◌≡◌, ◌≤◌, length, Ok, Err};
 ghost use Rattle.list_types.specs.Results.{Gives, GivesExactly};
 ghost use Rattle.hpack_tables.specs.Blocks.{indexed_at, name_at, literal_at, added, field_at, fields_in, is_update, update_at, updates_in, block_at};
 
@@ -161,7 +161,8 @@ pub(crate) fn block(
     table: &mut DynamicTable,
     bytes: &[u8],
 ) -> Result<List<Header>, Refusal<HpackFault>>
-    ensures { Gives (λ x. (x, table.new)) result (block_at table.old bytes.now) }
+    ensures exact { Gives (λ x. (x, table.new)) result (block_at table.old bytes.now) }
+    ensures updates { (fault : HpackFault) → updates_in (length bytes.now) table.old bytes.now ≡ Err fault → result ≡ Err (Refusal.For fault) }
 {
     let rest = updates(table, bytes)?;
     fields(alloc, table, rest)

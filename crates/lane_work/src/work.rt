@@ -22,7 +22,6 @@ use std::marker::Model;
 /// What one lane has done in a run: the record of each packet that it ran on snapshots of the control state, and, by its seat
 /// of the counters, what they hit. It takes the memory of a packet's record before it runs the next one, so that a packet
 /// which is not run is not counted either. It goes from thread to thread.
-#[derive(Drop)]
 pub struct LaneWork {
     who: Who,
     worker: Worker,
@@ -57,6 +56,19 @@ pub struct Finished {
     pub viewer: Viewer,
     pub seat: Seat,
     pub records: List<Record>,
+}
+
+// Written out, so that those who let one go need not look into it.
+impl Drop for LaneWork {
+    fn drop(self) {
+        let Self {
+            who: _,
+            worker: _worker,
+            records: _records,
+            verdict: _verdict,
+            is_due: _,
+        } = self;
+    }
 }
 
 impl LaneWork {

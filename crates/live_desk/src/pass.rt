@@ -22,7 +22,6 @@ use std::marker::{Model, PhantomData};
 use std::sync::Wait;
 
 /// Makes the calls of one caller, one after another, with a worker of its own. It keeps none of them. It goes from thread to thread.
-#[derive(Drop)]
 pub struct Pass<J: Naming> {
     pub(crate) lane: u16,
     // the port at which packets of controllers enter
@@ -59,6 +58,22 @@ impl<J: Naming> Model for Pass<J> {
         × Begins p.last p.worker.told
         × (p.worker.seat.bank ≡ J.bank)
         × IsCounted p.lane p.last.events p.seat.entries };
+}
+
+// Written out, so that those who let one go need not look into it.
+impl<J: Naming> Drop for Pass<J> {
+    fn drop(self) {
+        let Self {
+            lane: _,
+            cpu: _,
+            seat: _seat,
+            last: _last,
+            worker: _worker,
+            verdict: _verdict,
+            waiting: _waiting,
+            of: _,
+        } = self;
+    }
 }
 
 impl<J: Naming> Pass<J> {
@@ -168,6 +183,16 @@ impl<J: Naming> Pass<J> {
     pub fn into_worker(self) -> Worker
         ensures { result ≡ self.worker }
     {
-        self.worker
+        let Self {
+            lane: _,
+            cpu: _,
+            seat: _seat,
+            last: _last,
+            worker,
+            verdict: _verdict,
+            waiting: _waiting,
+            of: _,
+        } = self;
+        worker
     }
 }

@@ -1,7 +1,7 @@
 //! What waits for all controllers.
 ghost use Rattle.std.specs.Prelude.{◌≡◌, ◌≢◌, ◌⊎◌, [], false, IfOk, IfSome, All, replicate};
 ghost use Rattle.std.specs.Option.{option_copied};
-ghost use Rattle.digest_lists.specs.Fold.{HasRoom, set_digest, set_to, acknowledge};
+ghost use Rattle.digest_lists.specs.Fold.{HasRoom, IsTaken, set_digest, set_to, acknowledge};
 ghost use Rattle.mail_room.specs.Boxes.{IsMail, empty_box};
 ghost use Rattle.mail_room.specs.AllMail.{IsLane, IsLaneIfAny, no_mail, with_box, with_lists, missed, notified, posted, posted_one, own_notices, sent_to, packet_in, packets_to, list_to, sampled, ticked, Gives, IsDoneOrMissed};
 
@@ -21,7 +21,6 @@ use std::marker::Model;
 pub const LANE_LIMIT: usize = 32;
 
 /// What waits for the controller of each lane, and the digests that are set. With a notice waits a T, which is what its call has told.
-#[derive(Drop)]
 pub struct Mail<T: Drop> {
     boxes: Vec<Mailbox<T>>,
     lists: Lists,
@@ -38,6 +37,17 @@ impl<T: Drop> Model for Mail<T> {
     ghost view = { λ m. record { boxes = m.boxes.items; lists = m.lists; unstored = m.unstored } };
 
     ghost invariant = { λ m. vec_len m.boxes ≡ LANE_LIMIT };
+}
+
+// Written out, so that those who let one go need not look into it.
+impl<T: Drop> Drop for Mail<T> {
+    fn drop(self) {
+        let Self {
+            boxes: _boxes,
+            lists: _lists,
+            unstored: _,
+        } = self;
+    }
 }
 
 fn open_boxes<T: Drop>(alloc: Global) -> Result<Vec<Mailbox<T>>, NoMemory>
@@ -191,7 +201,8 @@ impl<T: Drop> Mail<T> {
     }
 
     /// Takes a sample of a digest at a moment, in nanoseconds. A list that it makes due goes to the lane of the primary, or nowhere without one.
-    /// Without memory the sample is lost and counted, and the answer is false.
+    /// Without memory the sample is lost and counted, and the answer is false. Where the digest is not set, and where the sample is passed over,
+    /// no memory is asked for.
     pub fn deliver_sample(
         &mut self,
         digest: u32,
@@ -200,7 +211,8 @@ impl<T: Drop> Mail<T> {
         now: u64,
     ) -> bool
         requires { IsLaneIfAny primary }
-        ensures { IsDoneOrMissed result self.old (sampled self.old primary digest sample now) self.new }
+        ensures done { IsDoneOrMissed result self.old (sampled self.old primary digest sample now) self.new }
+        ensures taken { result ≡ false → IsTaken self.old.lists digest sample now }
     {
         match self.lists.sample(digest, sample, now) {
             Ok(list) => {

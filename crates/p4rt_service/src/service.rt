@@ -101,7 +101,6 @@ fn deliver_on(
 /// P4Runtime for the client of one lane, over its connection. A contract sees the link that it serves. Where there is no
 /// memory for a call, the link is lost: each later call finds none either, and of the calls of a desk that it would have
 /// made the first may have been made. Then too `has_channel` tells whether the controller is still to leave.
-#[derive(Drop)]
 pub struct Service {
     standing: Standing,
 }
@@ -112,6 +111,15 @@ impl Model for Service {
     ghost Value = { Standing };
 
     ghost view = { λ service. service.standing };
+}
+
+// Written out, so that those who let one go need not look into it.
+impl Drop for Service {
+    fn drop(self) {
+        let Self {
+            standing: _standing,
+        } = self;
+    }
 }
 
 impl Service {

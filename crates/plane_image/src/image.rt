@@ -22,7 +22,6 @@ use std::marker::Model;
 
 /// The control state of the switch, whose changes can be undone until they are kept, with the number of steps so far
 /// (which stands still at 2^64 - 1). Contracts see it as it is, and as it was before the changes that can be undone.
-#[derive(Drop)]
 pub struct Image {
     pub(crate) device: u64,
     pub(crate) cpu: u16,
@@ -57,6 +56,25 @@ impl Model for Image {
       before = control_of i.device i.cpu i.rows i.roles.before i.planes.former_active i.planes.former_staged i.former_next i.former_slot i.closed;
       steps = i.steps;
     }) };
+}
+
+// Written out, so that those who let an image go need not look into it.
+impl Drop for Image {
+    fn drop(self) {
+        let Self {
+            device: _,
+            cpu: _,
+            rows: _,
+            roles: _roles,
+            planes: _planes,
+            next: _,
+            next_slot: _,
+            former_next: _,
+            former_slot: _,
+            closed: _,
+            steps: _,
+        } = self;
+    }
 }
 
 impl Image {

@@ -14,7 +14,6 @@ use std::marker::Model;
 
 /// A forwarding pipeline configuration (P4Runtime 1.3.0, "ForwardingPipelineConfig"): its bytes as they were given, and
 /// what they mean.
-#[derive(Drop)]
 pub struct Config {
     p4info: ByteList,
     device_config: ByteList,
@@ -37,6 +36,20 @@ impl Model for Config {
     ghost view = { λ c. record { p4info = c.p4info; device_config = c.device_config; cookie = c.cookie; info = c.info; program = c.pipeline } };
 
     ghost invariant = { λ c. c.defaults ≡ own_defaults c.pipeline };
+}
+
+// Written out, so that those who let a configuration go need not look into it.
+impl Drop for Config {
+    fn drop(self) {
+        let Self {
+            p4info: _p4info,
+            device_config: _device_config,
+            cookie: _,
+            info: _info,
+            pipeline: _pipeline,
+            defaults: _defaults,
+        } = self;
+    }
 }
 
 // The default action that a table has by itself, as the P4Info names it.

@@ -1,5 +1,5 @@
 //! What a plane is made of.
-ghost use Rattle.std.specs.Prelude.{◌≡◌, ◌+◌, ◌-◌, None, IfOk, OnOk};
+ghost use Rattle.std.specs.Prelude.{◌≡◌, ◌+◌, ◌-◌, ◌^◌, ◌≤◌, None, IfOk, IfErr, OnOk};
 ghost use Rattle.plane_spec.specs.Planes.{made_plane, with_default};
 ghost use Rattle.plane_state.specs.Answers.{WithMemory};
 ghost use Rattle.plane_state.specs.Versions.{IsCounted};
@@ -69,7 +69,8 @@ pub(crate) const NOTHING: Drawn = Drawn {
 
 /// So many rows more; refused only where they have no place in the count, since no memory holds so many.
 pub(crate) fn more(rows: u64, taken: u64) -> Result<u64, NoMemory>
-    ensures { IfOk result (λ sum. sum ≡ rows + taken) }
+    ensures sum { IfOk result (λ sum. sum ≡ rows + taken) }
+    ensures refused { IfErr result (λ _. 2 ^ 64 ≤ rows + taken) }
 {
     rows.checked_add(taken).ok_or(NoMemory)
 }

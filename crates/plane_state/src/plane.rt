@@ -23,7 +23,6 @@ use table_store::TableStore;
 
 /// A program with what is written to it, whose changes can be undone until they are kept. Contracts see it as it is,
 /// and as it was before the changes that can be undone.
-#[derive(Drop)]
 pub struct Plane {
     parts: Parts,
 }
@@ -40,6 +39,13 @@ impl Model for Plane {
     ghost view = { λ p. record { now = p.parts.now.plane; before = p.parts.before.plane } };
 
     ghost invariant = { λ p. AreCounted p.parts };
+}
+
+// Written out, so that those who let a plane go need not look into it.
+impl Drop for Plane {
+    fn drop(self) {
+        let Self { parts: _parts } = self;
+    }
 }
 
 impl Plane {

@@ -1,5 +1,5 @@
 //! Members, groups and one-shot sets, with how often each is named.
-ghost use Rattle.std.specs.Prelude.{◌≡◌, ◌+◌, IfOk};
+ghost use Rattle.std.specs.Prelude.{◌≡◌, ◌+◌, ◌^◌, ◌≤◌, IfOk, IfErr};
 
 use list_types::NoMemory;
 use p4_types::profiles::{Group, Member};
@@ -27,7 +27,8 @@ pub struct SetCount {
 
 /// A count that is so much greater; refused only where it has no place, since no memory holds so many.
 pub(crate) fn raised(count: u64, more: u64) -> Result<u64, NoMemory>
-    ensures { IfOk result (λ sum. sum ≡ count + more) }
+    ensures sum { IfOk result (λ sum. sum ≡ count + more) }
+    ensures refused { IfErr result (λ _. 2 ^ 64 ≤ count + more) }
 {
     count.checked_add(more).ok_or(NoMemory)
 }

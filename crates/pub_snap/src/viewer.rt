@@ -11,7 +11,6 @@ use plane_image::Image;
 use std::marker::Model;
 
 /// One who sees snapshots, with what it has seen or learnt of the list, and how often it was refused.
-#[derive(Drop)]
 pub struct Viewer {
     pub(crate) reader: ShownReader,
     pub(crate) told: Told,
@@ -53,6 +52,17 @@ impl Model for View {
     ghost view = { λ v. record { image = v.reading.part.value.image; told = v.reading.part.value.told; refusals = v.refusals } };
 
     ghost invariant = { λ v. IsAfter v.reading.part.value.image v.reading.part.value.told × (seat_view v.reading.place ≡ Some v.reading.part.value.told) };
+}
+
+// Written out, so that those who let one go need not look into it.
+impl Drop for Viewer {
+    fn drop(self) {
+        let Self {
+            reader: _reader,
+            told: _told,
+            refusals: _,
+        } = self;
+    }
 }
 
 impl Viewer {

@@ -35,7 +35,6 @@ impl From<NoEntry> for Refusal<NoEntry> {
 }
 
 /// One who runs packets on snapshots of the control state, and counts what they hit at a seat of the counters.
-#[derive(Drop)]
 pub struct Worker {
     watch: Watch,
     seat: Seat,
@@ -58,6 +57,17 @@ impl Model for Worker {
       receiver = w.watch.receiver;
       seat = w.seat;
     } };
+}
+
+// Written out, so that those who let one go need not look into it.
+impl Drop for Worker {
+    fn drop(self) {
+        let Self {
+            watch: _watch,
+            seat: _seat,
+            scratch: _scratch,
+        } = self;
+    }
 }
 
 impl Worker {

@@ -1,5 +1,5 @@
 -- What the objects in memory hold.
-use Rattle.std.specs.Prelude.{ℕ, Bool, List, ◌==◌}
+use Rattle.std.specs.Prelude.{ℕ, Bool, List, ◌==◌, length, min}
 use Rattle.std.specs.List.{list_any}
 use Rattle.sw_edge.specs.Counts.{one_more}
 
@@ -24,6 +24,10 @@ after_call picked = record picked { calls = one_more picked.calls }
 pub record Unread : Type 0 where
   pub left : List ℕ
   pub piece : ℕ
+
+-- how many bytes a read gives that has room for so many: all that are left, as far as the room and the piece go
+abbrev pub next_count : Unread → ℕ → ℕ
+next_count unread room = min (min (length unread.left) room) unread.piece
 
 -- bytes that were written, and how many there is room for in all
 pub record Written : Type 0 where

@@ -1,5 +1,5 @@
 -- What the links, ports and nets in memory hold.
-use Rattle.std.specs.Prelude.{◌≡◌, ℕ, true, false, List}
+use Rattle.std.specs.Prelude.{◌≡◌, ℕ, true, false, List, if◌then◌else◌}
 use Rattle.sw_edge.specs.Counts.{one_more_if}
 use Rattle.sw_edge.specs.Memory.{Picked, Unread, Written, picks, is_next, after_call}
 
@@ -23,6 +23,10 @@ after_turn c = record c { failing = after_call c.failing; faults = one_more_if (
 -- a call that did not fail, which is counted if it is one that finds nothing
 abbrev pub after_look : HeldCourse → HeldCourse
 after_look c = record c { quiet = after_call c.quiet; quiets = one_more_if (is_next c.quiet) c.quiets }
+
+-- which calls find nothing, once one was made; one that fails does not look
+abbrev pub quiet_after : HeldCourse → Picked
+quiet_after c = if is_next c.failing then c.quiet else after_call c.quiet
 
 -- the next call does not fail and finds nothing
 abbrev pub IsNextQuiet : HeldCourse → Type 0

@@ -1,6 +1,6 @@
 // Bytes in memory that are read from the front, and room in memory that is filled.
 ghost use Rattle.std.specs.Prelude.{◌≡◌, ◌+◌, ◌-◌, ◌<◌, ◌≤◌, ◌++◌, ◌↔◌, [], length, take, drop, IfOk, vec_capacity};
-ghost use Rattle.sw_edge.specs.Memory.{Unread, Written};
+ghost use Rattle.sw_edge.specs.Memory.{Unread, Written, next_count};
 
 use crate::Sent;
 use std::alloc::{AllocError, Global};
@@ -34,10 +34,11 @@ impl Pieces {
         }
     }
 
-    // Moves the next bytes into the front of the buffer and says how many; 0 is the end.
+    // Moves the next bytes into the front of the buffer, as many as it takes and the piece allows, and says how many; 0 is the end.
     pub fn read_into(&mut self, buf: &mut [u8]) -> usize
         requires { 0 < length buf.old }
         ensures fits { result ≤ length buf.new }
+        ensures count { result ≡ next_count self.old (length buf.new) }
         ensures taken { self.old.left ≡ take result buf.new ++ self.new.left }
         ensures end { result ≡ 0 → self.old.left ≡ [] }
         ensures piece { (result ≤ self.old.piece) × (self.new.piece ≡ self.old.piece) }

@@ -1,9 +1,9 @@
 // A link in memory.
-ghost use Rattle.std.specs.Prelude.{◌≡◌, ◌+◌, ◌<◌, ◌≤◌, ◌↔◌, ◌⊎◌, [], Some, length, IfOk, IsTrue};
+ghost use Rattle.std.specs.Prelude.{◌≡◌, ◌+◌, ◌-◌, ◌<◌, ◌≤◌, ◌++◌, ◌↔◌, ◌⊎◌, ℕ, [], Some, false, length, take, IfOk, IsTrue};
 ghost use Rattle.sw_edge.specs.Answers.{PullFits, Pulls, Sends};
 ghost use Rattle.sw_edge.specs.Counts.{HasCause, StaysUnless};
-ghost use Rattle.sw_edge.specs.Memory.{is_next, after_call};
-ghost use Rattle.sw_edge.specs.MemoryNet.{IsNextQuiet, course, HeldLink};
+ghost use Rattle.sw_edge.specs.Memory.{is_next, after_call, next_count};
+ghost use Rattle.sw_edge.specs.MemoryNet.{IsNextQuiet, course, quiet_after, HeldLink};
 
 use crate::course::Course;
 use crate::held::{Pieces, Store};
@@ -83,6 +83,9 @@ impl Link for MemoryLink {
         ensures picked { (result ≡ Pulled.Failed) ↔ IsTrue (is_next self.old.course.failing) }
         ensures counted { self.new.course.failing ≡ after_call self.old.course.failing }
         ensures picked_quiet { (result ≡ Pulled.Quiet) ↔ IsNextQuiet self.old.course }
+        ensures counted_quiet { self.new.course.quiet ≡ quiet_after self.old.course }
+        ensures in_pieces { (n : ℕ) → result ≡ Pulled.Bytes n → n ≡ next_count self.old.unread (length buf.new) }
+        ensures piece { self.new.unread.piece ≡ self.old.unread.piece }
     {
         if self.course.fails() {
             return Pulled::Failed;
@@ -109,6 +112,7 @@ impl Link for MemoryLink {
 
         // It fails where it is told to and where there is no room, and nowhere else.
         ensures picked { IsTrue (is_next self.old.course.failing) → (result ≡ Sent.Failed) × (self.new.written ≡ self.old.written) }
+        ensures filled { is_next self.old.course.failing ≡ false → self.new.written.sent ≡ self.old.written.sent ++ take (self.old.written.room - length self.old.written.sent) bytes.now }
         ensures full { (result ≡ Sent.Failed) ↔ (IsTrue (is_next self.old.course.failing) ⊎ (self.old.written.room < length self.old.written.sent + length bytes.now)) }
         ensures counted { self.new.course.failing ≡ after_call self.old.course.failing }
         ensures quiet_kept { self.new.course.quiet ≡ self.old.course.quiet }

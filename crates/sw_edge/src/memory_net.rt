@@ -2,7 +2,7 @@
 ghost use Rattle.std.specs.Prelude.{◌≡◌, ◌≤◌, ◌↔◌, ◌⊎◌, ◌∷◌, [], IsTrue};
 ghost use Rattle.sw_edge.specs.Counts.{HasCause, StaysUnless};
 ghost use Rattle.sw_edge.specs.Memory.{is_next, after_call};
-ghost use Rattle.sw_edge.specs.MemoryNet.{IsNextQuiet, course, HeldLink, HeldNet, HeldPorts};
+ghost use Rattle.sw_edge.specs.MemoryNet.{IsNextQuiet, course, quiet_after, HeldLink, HeldNet, HeldPorts};
 
 use crate::course::Course;
 use crate::{Accepted, MemoryLink, MemoryPorts, Net, Opened, Sent};
@@ -83,7 +83,8 @@ impl Net for MemoryNet {
         // It fails where it is told to, and nowhere else, is quiet where it is told to be, and nowhere else, and ends where no link is left.
         ensures picked { (result ≡ Accepted.Failed) ↔ IsTrue (is_next self.old.course.failing) }
         ensures picked_quiet { (result ≡ Accepted.Quiet) ↔ IsNextQuiet self.old.course }
-        ensures none_left { result ≡ Accepted.End → self.old.links ≡ [] }
+        ensures counted_quiet { self.new.course.quiet ≡ quiet_after self.old.course }
+        ensures none_left { result ≡ Accepted.End → (self.old.links ≡ []) × (self.new.links ≡ []) }
         ensures first { (link : HeldLink) → result ≡ Accepted.Link link → self.old.links ≡ link ∷ self.new.links }
         ensures links_kept { (result ≡ Accepted.Failed) ⊎ (result ≡ Accepted.Quiet) → self.new.links ≡ self.old.links }
         ensures ports { self.new.ports ≡ self.old.ports }

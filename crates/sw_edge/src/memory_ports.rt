@@ -3,7 +3,7 @@ ghost use Rattle.std.specs.Prelude.{◌≡◌, ◌+◌, ◌<◌, ◌≤◌, ◌�
 ghost use Rattle.sw_edge.specs.Answers.{PacketFits, TakesPacket, Puts};
 ghost use Rattle.sw_edge.specs.Counts.{HasCause, StaysUnless};
 ghost use Rattle.sw_edge.specs.Memory.{is_next, after_call};
-ghost use Rattle.sw_edge.specs.MemoryNet.{IsNextQuiet, course, HeldPorts};
+ghost use Rattle.sw_edge.specs.MemoryNet.{IsNextQuiet, course, quiet_after, HeldPorts};
 
 use crate::course::Course;
 use crate::packets::{Arrival, Blank, Departure};
@@ -114,6 +114,7 @@ impl Ports for MemoryPorts {
         ensures picked { (result ≡ Taken.Failed) ↔ IsTrue (is_next self.old.course.failing) }
         ensures counted { self.new.course.failing ≡ after_call self.old.course.failing }
         ensures picked_quiet { (result ≡ Taken.Quiet) ↔ IsNextQuiet self.old.course }
+        ensures counted_quiet { self.new.course.quiet ≡ quiet_after self.old.course }
         ensures room { self.new.room ≡ self.old.room }
     {
         if self.course.fails() {

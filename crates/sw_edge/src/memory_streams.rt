@@ -1,8 +1,8 @@
 // A source and a sink in memory.
-ghost use Rattle.std.specs.Prelude.{◌≡◌, ◌+◌, ◌<◌, ◌≤◌, ◌++◌, ◌↔◌, ◌⊎◌, ℕ, [], Some, length, IfOk, IsTrue};
+ghost use Rattle.std.specs.Prelude.{◌≡◌, ◌+◌, ◌<◌, ◌-◌, ◌^◌, ◌++◌, ◌↔◌, ◌⊎◌, ℕ, [], Some, false, length, take, IfOk, IsTrue};
 ghost use Rattle.sw_edge.specs.Answers.{Fits, Takes, Sends};
 ghost use Rattle.sw_edge.specs.Counts.{HasCause, StaysUnless, one_more_if};
-ghost use Rattle.sw_edge.specs.Memory.{HeldSource, HeldSink, picks, is_next, after_call};
+ghost use Rattle.sw_edge.specs.Memory.{HeldSource, HeldSink, picks, is_next, after_call, next_count};
 
 use crate::count::{Picks, raise};
 use crate::held::{Pieces, Store};
@@ -28,7 +28,7 @@ impl Model for MemorySource {
 impl MemorySource {
     /// These bytes, as many at a read as the buffer takes.
     pub fn new(bytes: Vec<u8>, failing: Vec<u64>) -> MemorySource
-        ensures left { result.unread.left ≡ bytes.items }
+        ensures left { result.unread ≡ record { left = bytes.items; piece = 2 ^ 64 - 1 } }
         ensures failing { result.failing ≡ picks failing.items }
         ensures faults { result.faults ≡ 0 }
         ensures ends { result.ends ≡ 0 }
@@ -73,7 +73,7 @@ impl Source for MemorySource {
         ensures picked { (result ≡ Got.Failed) ↔ IsTrue (is_next self.old.failing) }
         ensures counted { self.new.failing ≡ after_call self.old.failing }
         ensures faults { self.new.faults ≡ one_more_if (is_next self.old.failing) self.old.faults }
-        ensures in_pieces { (n : ℕ) → result ≡ Got.Bytes n → n ≤ self.old.unread.piece }
+        ensures in_pieces { (n : ℕ) → result ≡ Got.Bytes n → n ≡ next_count self.old.unread (length buf.new) }
         ensures piece { self.new.unread.piece ≡ self.old.unread.piece }
     {
         if self.failing.call() {
@@ -139,6 +139,7 @@ impl Sink for MemorySink {
 
         // It fails where it is told to and where there is no room, and nowhere else.
         ensures picked { IsTrue (is_next self.old.failing) → (result ≡ Sent.Failed) × (self.new.written ≡ self.old.written) }
+        ensures filled { is_next self.old.failing ≡ false → self.new.written.sent ≡ self.old.written.sent ++ take (self.old.written.room - length self.old.written.sent) bytes.now }
         ensures full { (result ≡ Sent.Failed) ↔ (IsTrue (is_next self.old.failing) ⊎ (self.old.written.room < length self.old.written.sent + length bytes.now)) }
         ensures counted { self.new.failing ≡ after_call self.old.failing }
         ensures room { self.new.written.room ≡ self.old.written.room }

@@ -1,5 +1,5 @@
 -- The entries of the groups, in one list, about one table: those of lower tables, its own, and those of higher ones.
-use Rattle.std.proofs.Common.{◌≡◌, ℕ, suc, ◌+◌, ◌<◌, ◌≤◌, Bool, true, false, if◌then◌else◌, not, eqb, ltb, leb, List, [], ◌∷◌, ◌++◌, length, get_or, set, take, drop, append_assoc, length-append, is_some, refl, sym, ap, subst, ◌∙◌, arith}
+use Rattle.std.proofs.Common.{◌≡◌, ℕ, suc, ◌+◌, ◌<◌, ◌≤◌, Bool, true, false, if◌then◌else◌, not, eqb, ltb, leb, List, [], ◌∷◌, ◌++◌, length, get_or, set, take, drop, append_assoc, length-append, None, is_some, refl, sym, ap, subst, ◌∙◌, arith}
 use Rattle.std.specs.Prelude.{filter, map}
 use Rattle.std.specs.List.{AllByRecursion, insert}
 use Rattle.std.proofs.lemmas.Bool.{false≢true}
@@ -10,13 +10,14 @@ use Rattle.std.proofs.lemmas.List.Elements.{filter-append}
 use Rattle.p4_types.specs.declared.table.Entry.{Entry}
 use Rattle.p4_types.specs.declared.table.EntryChange.{EntryChange}
 use Rattle.p4_types.specs.declared.table.EntryName.{EntryName}
-use Rattle.plane_spec.specs.Entries.{same_name, with_change, entry_named, inserted, modified, deleted}
-use Rattle.plane_spec.proofs.Lists.{All-weaken, All-snoc, All-filter}
+use Rattle.plane_spec.specs.Entries.{same_name, with_change, entry_named, best, inserted, modified, deleted}
+use Rattle.plane_spec.proofs.Lists.{All-weaken, All-filter}
+use Rattle.match_index.specs.Order.{IsBefore}
 use Rattle.table_store.specs.declared.groups.Group.{Group}
-use Rattle.table_store.specs.Groups.{flat, AreOf, AreInOrder, IsBefore, IsFresh, IsGroup, AreGroups, IsAt, IsGap}
+use Rattle.table_store.specs.Groups.{flat, AreOf, IsFresh, IsGroup, AreGroups, IsAt, IsGap}
 use Rattle.table_store.proofs.Lists.{each_append, each_front, each_back, each_map, filter_all, filter_none}
-use Rattle.table_store.proofs.OfTable.{named_of_table}
-use Rattle.table_store.proofs.OneTable.{one, length_deleted, unchanged, kept, order_modified, order_deleted, order_push}
+use Rattle.table_store.proofs.OfTable.{named_of_table, best_of_table}
+use Rattle.table_store.proofs.OneTable.{one, length_deleted, unchanged, kept}
 
 pub record Splits (table : ℕ) (before mine after : List Entry) : Type 0 where
   pub below : AllByRecursion (λ e. e.name.table < table) before
@@ -150,11 +151,11 @@ same_table : (change : EntryChange) (table : ℕ) (b : Bool) (e : Entry) → e.n
 same_table change table true e h = h
 same_table change table false e h = h
 
-table_modified : (change : EntryChange) (table : ℕ) (xs : List Entry) → AreOf table xs → AreOf table (modified change xs)
+pub table_modified : (change : EntryChange) (table : ℕ) (xs : List Entry) → AreOf table xs → AreOf table (modified change xs)
 unfolding modified
 table_modified change table xs h = each_map (λ e. e.name.table ≡ table) (one change) (λ e k. same_table change table (same_name change.name e.name) e k) xs h
 
-table_deleted : (name : EntryName) (table : ℕ) (xs : List Entry) → AreOf table xs → AreOf table (deleted name xs)
+pub table_deleted : (name : EntryName) (table : ℕ) (xs : List Entry) → AreOf table xs → AreOf table (deleted name xs)
 unfolding deleted
 table_deleted name table xs h = All-filter (λ e. e.name.table ≡ table) (λ e. not (same_name name e.name)) xs h
 
@@ -175,7 +176,7 @@ module _ (groups : List Group) (are : AreGroups groups) (table place : ℕ) (at 
   pub split : AreGroups (take place groups ++ g ∷ drop (suc place) groups)
   split = subst AreGroups is are
 
-  here : IsGroup g
+  pub here : IsGroup g
   here = (groups_back (take place groups) (g ∷ drop (suc place) groups) split).0
 
   pub of_table : g.table ≡ table
@@ -204,15 +205,6 @@ module _ (groups : List Group) (are : AreGroups groups) (table place : ℕ) (at 
   pub flat_same : (h : Group) → h.entries.items ≡ g.entries.items → flat (set groups place h) ≡ flat groups
   flat_same h same = flat_set h ∙ ap (λ xs. flat (take place groups) ++ (xs ++ flat (drop (suc place) groups))) same ∙ sym flat_is
 
-  pub groups_same : (h : Group) → g.table ≡ h.table → h.entries.items ≡ g.entries.items → AreGroups (set groups place h)
-  groups_same h same made = groups_set h same (record {
-    table = subst (λ t. AreOf t h.entries.items) same (subst (AreOf g.table) (sym made) here.table);
-    order = subst AreInOrder (sym made) here.order;
-  })
-
-  pub order_at : AreInOrder g.entries.items
-  order_at = here.order
-
   pub entries_at : g.entries.items ≡ filter (λ e. eqb e.name.table table) (flat groups)
   entries_at = sym (ap (λ xs. filter (λ e. eqb e.name.table table) xs) flat_is ∙ split_filter table _ _ _ splits)
 
@@ -222,29 +214,18 @@ module _ (groups : List Group) (are : AreGroups groups) (table place : ℕ) (at 
       ∙ ap (λ xs. flat (take place groups) ++ (xs ++ flat (drop (suc place) groups))) made
       ∙ sym (ap (λ xs. modified change xs) flat_is ∙ split_modified table _ _ _ splits change same)
 
-  pub groups_modified : (h : Group) (change : EntryChange) → g.table ≡ h.table → h.entries.items ≡ modified change g.entries.items → AreGroups (set groups place h)
-  groups_modified h change same made = groups_set h same (record {
-    table = subst (λ t. AreOf t h.entries.items) same (subst (AreOf g.table) (sym made) (table_modified change g.table g.entries.items here.table));
-    order = subst AreInOrder (sym made) (order_modified change g.entries.items here.order);
-  })
-
   pub flat_deleted : (h : Group) (name : EntryName) → name.table ≡ table → h.entries.items ≡ deleted name g.entries.items → flat (set groups place h) ≡ deleted name (flat groups)
   flat_deleted h name same made =
       flat_set h
       ∙ ap (λ xs. flat (take place groups) ++ (xs ++ flat (drop (suc place) groups))) made
       ∙ sym (ap (λ xs. deleted name xs) flat_is ∙ split_deleted table _ _ _ splits name same)
 
-  pub groups_deleted : (h : Group) (name : EntryName) → g.table ≡ h.table → h.entries.items ≡ deleted name g.entries.items → AreGroups (set groups place h)
-  groups_deleted h name same made = groups_set h same (record {
-    table = subst (λ t. AreOf t h.entries.items) same (subst (AreOf g.table) (sym made) (table_deleted name g.table g.entries.items here.table));
-    order = subst AreInOrder (sym made) (order_deleted name g.entries.items here.order);
-  })
+  pub named_here : (name : EntryName) → name.table ≡ table → entry_named name g.entries.items ≡ entry_named name (flat groups)
+  named_here name same = ap (λ xs. entry_named name xs) entries_at ∙ ap (λ t. entry_named name (filter (λ e. eqb e.name.table t) (flat groups))) (sym same) ∙ named_of_table name (flat groups)
 
   pub length_deleted_at : (h : Group) (name : EntryName) → name.table ≡ table → h.entries.items ≡ deleted name g.entries.items → is_some (entry_named name (flat groups)) ≡ true → length (flat (set groups place h)) + 1 ≡ length (flat groups)
   length_deleted_at h name same made found =
-      let here_named : entry_named name g.entries.items ≡ entry_named name (flat groups) =
-      ap (λ xs. entry_named name xs) entries_at ∙ ap (λ t. entry_named name (filter (λ e. eqb e.name.table t) (flat groups))) (sym same) ∙ named_of_table name (flat groups) in
-      let shorter : length (deleted name g.entries.items) + 1 ≡ length g.entries.items = length_deleted name g.entries.items here.order (ap is_some here_named ∙ found) in
+      let shorter : length (deleted name g.entries.items) + 1 ≡ length g.entries.items = length_deleted name g.entries.items here.order (ap is_some (named_here name same) ∙ found) in
       longer _ _ h.entries.items g.entries.items (flat (take place groups)) (flat (drop (suc place) groups)) (flat_set h) flat_is (rw made shorter)
 
   pub flat_inserted : (h : Group) (entry : Entry) → table ≡ entry.name.table → h.entries.items ≡ g.entries.items ++ entry ∷ [] → flat (set groups place h) ≡ inserted entry (flat groups)
@@ -253,13 +234,11 @@ module _ (groups : List Group) (are : AreGroups groups) (table place : ℕ) (at 
       ∙ ap (λ xs. flat (take place groups) ++ (xs ++ flat (drop (suc place) groups))) made
       ∙ sym (ap (λ xs. inserted entry xs) flat_is ∙ split_inserted table _ _ _ splits entry same)
 
-  pub groups_inserted : (h : Group) (entry : Entry) → table ≡ entry.name.table → IsFresh entry (flat groups) → g.table ≡ h.table → h.entries.items ≡ g.entries.items ++ entry ∷ [] → AreGroups (set groups place h)
-  groups_inserted h entry of fresh same made =
-      let here_fresh = each_front (λ o. IsBefore o entry) g.entries.items (flat (drop (suc place) groups)) (each_back (λ o. IsBefore o entry) (flat (take place groups)) _ (subst (IsFresh entry) flat_is fresh)) in
-      groups_set h same (record {
-        table = subst (λ t. AreOf t h.entries.items) same (subst (AreOf g.table) (sym made) (All-snoc (λ e. e.name.table ≡ g.table) g.entries.items entry here.table (sym of ∙ sym of_table)));
-        order = subst AreInOrder (sym made) (order_push g.entries.items entry here.order here_fresh);
-      })
+  pub fresh_here : (entry : Entry) → IsFresh entry (flat groups) → IsFresh entry g.entries.items
+  fresh_here entry fresh = each_front (λ o. IsBefore o entry) g.entries.items (flat (drop (suc place) groups)) (each_back (λ o. IsBefore o entry) (flat (take place groups)) _ (subst (IsFresh entry) flat_is fresh))
+
+  pub best_here : (key : List ℕ) → best table key g.entries.items ≡ best table key (flat groups)
+  best_here key = ap (λ xs. best table key xs) entries_at ∙ best_of_table table key (flat groups)
 
 -- ---- the table has no group
 module _ (groups : List Group) (are : AreGroups groups) (table place : ℕ) (gap : IsGap groups table place) where
@@ -288,12 +267,16 @@ module _ (groups : List Group) (are : AreGroups groups) (table place : ℕ) (gap
   pub none_deleted : (name : EntryName) → name.table ≡ table → flat groups ≡ deleted name (flat groups)
   none_deleted name same = flat_gap ∙ sym (ap (λ xs. deleted name xs) flat_gap ∙ split_deleted table _ [] _ splits_gap name same ∙ ap (λ xs. flat (take place groups) ++ (xs ++ flat (drop place groups))) (kept name [] tt))
 
-  pub none_named : (name : EntryName) → name.table ≡ table → is_some (entry_named name (flat groups)) ≡ true → length (flat groups) + 1 ≡ length (flat groups)
+  pub not_named : (name : EntryName) → name.table ≡ table → None ≡ entry_named name (flat groups)
   unfolding entry_named
-  none_named name same found =
-      let none : entry_named name [] ≡ entry_named name (flat groups) =
-      ap (λ xs. entry_named name xs) no_entries ∙ ap (λ t. entry_named name (filter (λ e. eqb e.name.table t) (flat groups))) (sym same) ∙ named_of_table name (flat groups) in
-      absurd (false≢true (ap is_some none ∙ found))
+  not_named name same = ap (λ xs. entry_named name xs) no_entries ∙ ap (λ t. entry_named name (filter (λ e. eqb e.name.table t) (flat groups))) (sym same) ∙ named_of_table name (flat groups)
+
+  pub not_best : (key : List ℕ) → None ≡ best table key (flat groups)
+  unfolding best
+  not_best key = ap (λ xs. best table key xs) no_entries ∙ best_of_table table key (flat groups)
+
+  pub none_named : (name : EntryName) → name.table ≡ table → is_some (entry_named name (flat groups)) ≡ true → length (flat groups) + 1 ≡ length (flat groups)
+  none_named name same found = absurd (false≢true (ap is_some (not_named name same) ∙ found))
 
   pub flat_opened : (h : Group) (entry : Entry) → table ≡ entry.name.table → h.entries.items ≡ entry ∷ [] → flat (insert groups place h) ≡ inserted entry (flat groups)
   flat_opened h entry same made =
@@ -301,11 +284,7 @@ module _ (groups : List Group) (are : AreGroups groups) (table place : ℕ) (gap
       ∙ ap (λ xs. flat (take place groups) ++ (xs ++ flat (drop place groups))) made
       ∙ sym (ap (λ xs. inserted entry xs) flat_gap ∙ split_inserted table _ [] _ splits_gap entry same)
 
-  pub groups_opened : (h : Group) (entry : Entry) → table ≡ entry.name.table → table ≡ h.table → h.entries.items ≡ entry ∷ [] → AreGroups (insert groups place h)
-  groups_opened h entry of same made = placed (take place groups) h (drop place groups) split_gap
+  pub groups_opened : (h : Group) → table ≡ h.table → IsGroup h → AreGroups (insert groups place h)
+  groups_opened h same ok = placed (take place groups) h (drop place groups) split_gap
       (subst (λ t. AllByRecursion (λ o. o.table < t) (take place groups)) same gap.below)
-      (subst (λ t. AllByRecursion (λ o. t < o.table) (drop place groups)) same gap.above)
-      (record {
-        table = subst (AreOf h.table) (sym made) (sym of ∙ same, tt);
-        order = subst AreInOrder (sym made) (tt, tt);
-      })
+      (subst (λ t. AllByRecursion (λ o. t < o.table) (drop place groups)) same gap.above) ok

@@ -13,7 +13,7 @@ use Rattle.table_store.specs.Laws.{NamesTell, BestWins, NoneIsBest, OneBeats}
 use Rattle.table_store.proofs.Bests.{scanned, best_is_scanned}
 use Rattle.table_store.proofs.Lists.{filter_none}
 use Rattle.plane_spec.proofs.Names.{names_equal, name_is_same}
-use Rattle.table_store.proofs.Ranks.{beats_ranks, one_beats_other}
+use Rattle.match_index.proofs.Ranks.{beats_ranks, one_beats_other}
 
 pub names_tell : NamesTell
 names_tell a b = (names_equal a b, λ same. subst (λ (n : EntryName). same_name a n ≡ true) same (name_is_same a))

@@ -1,11 +1,11 @@
 pub mod Bests
-pub mod Bits
 pub mod ByTable
 pub mod Undo
 pub mod LawProofs
 pub mod Lists
+pub mod Numbers
 pub mod OfTable
+pub mod OneGroup
 pub mod OneTable
 pub mod Orders
 pub mod Places
-pub mod Ranks

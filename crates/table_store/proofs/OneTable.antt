@@ -9,7 +9,7 @@ use Rattle.p4_types.specs.declared.table.EntryChange.{EntryChange}
 use Rattle.p4_types.specs.declared.table.EntryName.{EntryName}
 use Rattle.plane_spec.specs.Entries.{same_name, with_change, modified, deleted, entry_named}
 use Rattle.plane_spec.proofs.Lists.{All-weaken, All-snoc, All-filter}
-use Rattle.table_store.specs.Groups.{IsBefore, AreInOrder}
+use Rattle.match_index.specs.Order.{IsBefore, AreInOrder}
 use Rattle.table_store.proofs.Lists.{none_at, map_none, filter_all}
 use Rattle.plane_spec.proofs.Names.{names_equal}
 

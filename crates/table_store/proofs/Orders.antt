@@ -6,8 +6,9 @@ use Rattle.std.proofs.lemmas.List.{take_rest}
 use Rattle.std.proofs.lemmas.List.Kept.{AllPairs-cons}
 use Rattle.p4_types.specs.declared.table.Entry.{Entry}
 use Rattle.plane_spec.proofs.Lists.{All-weaken}
+use Rattle.match_index.specs.Order.{IsBefore, AreInOrder}
 use Rattle.table_store.specs.declared.groups.Group.{Group}
-use Rattle.table_store.specs.Groups.{flat, AreOf, AreInOrder, IsBefore, AreGroups}
+use Rattle.table_store.specs.Groups.{flat, AreOf, AreGroups}
 use Rattle.plane_spec.specs.Order.{StandsBefore}
 use Rattle.table_store.specs.Order.{AreOfOneTable, AreOfLowerTables}
 use Rattle.table_store.proofs.ByTable.{above_flat, elsewhere, lower}

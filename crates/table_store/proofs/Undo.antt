@@ -7,12 +7,14 @@ use Rattle.p4_types.specs.declared.table.Entry.{Entry}
 use Rattle.p4_types.specs.declared.table.EntryChange.{EntryChange}
 use Rattle.plane_spec.specs.Entries.{inserted, modified}
 use Rattle.plane_spec.proofs.Lists.{All-weaken}
+use Rattle.match_index.specs.Index.{Covers}
+use Rattle.match_index.specs.Order.{AreInOrder}
 use Rattle.table_store.specs.declared.groups.Group.{Group}
-use Rattle.table_store.specs.Groups.{flat, AreOf, AreInOrder, AreGroups, IsAt, IsGap}
-use Rattle.table_store.specs.Undo.{was, WasGroup, IsTouched, IsStep, IsStore}
+use Rattle.table_store.specs.Groups.{flat, AreOf, AreGroups, IsAt, IsGap}
+use Rattle.table_store.specs.Undo.{was, WasGroup, IsRowStep, IsTouched, IsStep, IsStore}
 use Rattle.table_store.proofs.Lists.{each_append, each_front, each_back}
 use Rattle.table_store.proofs.OfTable.{both_each, length_inserted, length_modified}
-use Rattle.table_store.proofs.ByTable.{split, of_table, groups_set, below_here, groups_back}
+use Rattle.table_store.proofs.ByTable.{split, of_table, below_here, groups_back}
 
 -- ---- lists
 each_set : {X : Type 0} (P : X → Type 0) (xs : List X) (i : ℕ) (x : X) → AllByRecursion P xs → P x → AllByRecursion P (set xs i x)
@@ -51,31 +53,25 @@ touched_last tables table g is = inl (Contains-append_right tables (table ∷ []
 all_more : (tables : List ℕ) (table : ℕ) (groups : List Group) → AllByRecursion (IsTouched tables) groups → AllByRecursion (IsTouched (tables ++ table ∷ [])) groups
 all_more tables table groups h = All-weaken (IsTouched tables) (IsTouched (tables ++ table ∷ [])) (λ g touched. touched_more tables table g touched) groups h
 
-was_group : (g h : Group) → g.table ≡ h.table → h.entries.before ≡ g.entries.before → WasGroup g → WasGroup h
-was_group g h same before is = record {
-  table = subst (λ t. AreOf t h.entries.before) same (subst (AreOf g.table) (sym before) is.table);
-  order = subst AreInOrder (sym before) is.order;
-}
-
 -- nothing is changed
 pub step_none : (table : ℕ) (groups : List Group) → IsStep table groups groups
 step_none table groups = record { before = refl; kept = λ h. h; touched = λ tables h. all_more tables table groups h }
 
 -- the group of the table is changed
 pub step_set : (groups : List Group) (are : AreGroups groups) (table place : ℕ) (at : IsAt groups table place) (g : Group) (read : g ≡ get_or groups place g) (h : Group)
-    → g.table ≡ h.table → h.entries.before ≡ g.entries.before → IsStep table groups (set groups place h)
-step_set groups are table place at g read h same before = record {
-  before = was_set groups place g h read before;
-  kept = λ kept. each_set WasGroup groups place h kept (was_group g h same before (each_at WasGroup groups place g kept at.in_range read));
+    → IsRowStep g h → IsStep table groups (set groups place h)
+step_set groups are table place at g read h step = record {
+  before = was_set groups place g h read step.before;
+  kept = λ kept. each_set WasGroup groups place h kept (step.was (each_at WasGroup groups place g kept at.in_range read));
   touched = λ tables touched. each_set (IsTouched (tables ++ table ∷ [])) groups place h (all_more tables table groups touched)
-      (touched_last tables table h (sym (of_table groups are table place at g read) ∙ same));
+      (touched_last tables table h (sym (of_table groups are table place at g read) ∙ step.table));
 }
 
 -- a group is opened for the table
 pub step_insert : (groups : List Group) (table place : ℕ) (h : Group) → table ≡ h.table → h.entries.before ≡ [] → IsStep table groups (insert groups place h)
 step_insert groups table place h same none = record {
   before = was_insert groups place h none;
-  kept = λ kept. each_insert WasGroup groups place h kept (record { table = subst (AreOf h.table) (sym none) tt; order = subst AreInOrder (sym none) tt });
+  kept = λ kept. each_insert WasGroup groups place h kept (record { table = subst (AreOf h.table) (sym none) tt; order = subst AreInOrder (sym none) tt; covers = subst (Covers h.index) (sym none) tt });
   touched = λ tables touched. each_insert (IsTouched (tables ++ table ∷ [])) groups place h (all_more tables table groups touched) (touched_last tables table h same);
 }
 
@@ -129,22 +125,14 @@ less_gap groups table place gap tables touched =
     (above_less tables table (drop place groups) gap.above (each_back P (take place groups) (drop place groups) parts)))
 
 -- ---- the group of the table is restored
-pub restored : (groups : List Group) (are : AreGroups groups) (table place : ℕ) (at : IsAt groups table place) (g : Group) (read : g ≡ get_or groups place g) (h : Group)
-    → g.table ≡ h.table → AllByRecursion WasGroup groups → h.entries.items ≡ g.entries.before → AreGroups (set groups place h)
-restored groups are table place at g read h same kept made =
-    let is = each_at WasGroup groups place g kept at.in_range read in
-    groups_set groups are table place at g read h same (record {
-      table = subst (λ t. AreOf t h.entries.items) same (subst (AreOf g.table) (sym made) is.table);
-      order = subst AreInOrder (sym made) is.order;
-    })
+pub was_at : (groups : List Group) (place : ℕ) (g : Group) → place < length groups → g ≡ get_or groups place g → AllByRecursion WasGroup groups → WasGroup g
+was_at groups place g in_range read kept = each_at WasGroup groups place g kept in_range read
 
 pub restored_was : (groups : List Group) (place : ℕ) (g h : Group) → g ≡ get_or groups place g → h.entries.before ≡ g.entries.before → was (set groups place h) ≡ was groups
 restored_was groups place g h read same = was_set groups place g h read same
 
-pub restored_kept : (groups : List Group) (place : ℕ) (g h : Group) → place < length groups → g ≡ get_or groups place g → g.table ≡ h.table → h.entries.before ≡ g.entries.before
-    → AllByRecursion WasGroup groups → AllByRecursion WasGroup (set groups place h)
-restored_kept groups place g h in_range read same before kept =
-    each_set WasGroup groups place h kept (was_group g h same before (each_at WasGroup groups place g kept in_range read))
+pub restored_kept : (groups : List Group) (place : ℕ) (h : Group) → WasGroup h → AllByRecursion WasGroup groups → AllByRecursion WasGroup (set groups place h)
+restored_kept groups place h is kept = each_set WasGroup groups place h kept is
 
 -- ---- no table is touched
 settled_one : (g : Group) → IsTouched [] g → g.entries.before ≡ g.entries.items
@@ -158,7 +146,7 @@ settled_was (g ∷ groups) settled = rw (settled_one g settled.0, settled_was gr
 pub settled_kept : (groups : List Group) → AreGroups groups → AllByRecursion (IsTouched []) groups → AllByRecursion WasGroup groups
 settled_kept [] are settled = tt
 settled_kept (g ∷ groups) are settled = (
-  (let same = settled_one g settled.0 in record { table = subst (AreOf g.table) (sym same) are.0.table; order = subst AreInOrder (sym same) are.0.order }),
+  (let same = settled_one g settled.0 in record { table = subst (AreOf g.table) (sym same) are.0.table; order = subst AreInOrder (sym same) are.0.order; covers = subst (Covers g.index) (sym same) are.0.covers }),
   settled_kept groups are.2 settled.1,
 )
 

@@ -1,31 +1,24 @@
 -- How the store keeps its entries: a group of entries for each table.
-use Rattle.std.specs.Prelude.{◌≡◌, ℕ, ◌<◌, ◌≤◌, false, List, [], ◌∷◌, length, take, drop}
+use Rattle.std.specs.Prelude.{◌≡◌, ℕ, ◌<◌, ◌≤◌, List, [], ◌∷◌, length, take, drop}
 use Rattle.std.specs.List.{AllByRecursion, flat_map, HoldsAt}
 use Rattle.p4_types.specs.declared.table.Entry.{Entry}
-use Rattle.plane_spec.specs.Entries.{same_name}
+use Rattle.match_index.specs.Index.{Covers}
+use Rattle.match_index.specs.Order.{IsBefore, AreInOrder}
 use Rattle.table_store.specs.declared.groups.Group.{Group}
 
 -- the entries of the groups, in one list
 abbrev pub flat : List Group → List Entry
 flat groups = flat_map (λ group. group.entries.items) groups
 
--- of two entries of one table the former was inserted first, and they have two names
-abbrev pub IsBefore : Entry → Entry → Type 0
-IsBefore a b = (a.seq < b.seq) × (same_name a.name b.name ≡ false)
-
--- entries by rising sequence number, no two of one name
-abbrev pub AreInOrder : List Entry → Type 0
-AreInOrder [] = Unit {0}
-AreInOrder (entry ∷ entries) = AllByRecursion (IsBefore entry) entries × AreInOrder entries
-
 -- entries of the table
 abbrev pub AreOf : ℕ → List Entry → Type 0
 AreOf table entries = AllByRecursion (λ entry. entry.name.table ≡ table) entries
 
--- the entries of a table, in order
+-- the entries of a table, in order, each with its row in the index
 pub record IsGroup (group : Group) : Type 0 where
   pub table : AreOf group.table group.entries.items
   pub order : AreInOrder group.entries.items
+  pub covers : Covers group.index group.entries.items
 
 -- groups by rising table id
 abbrev pub AreGroups : List Group → Type 0

@@ -4,4 +4,3 @@ pub mod Groups
 pub mod Laws
 pub mod Order
 pub mod Rising
-pub mod Scan

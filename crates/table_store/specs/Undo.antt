@@ -2,8 +2,10 @@
 use Rattle.std.specs.Prelude.{◌≡◌, ◌⊎◌, ℕ, List, [], ◌∷◌, ◌++◌, length}
 use Rattle.std.specs.List.{AllByRecursion, Contains, flat_map}
 use Rattle.p4_types.specs.declared.table.Entry.{Entry}
+use Rattle.match_index.specs.Index.{Covers}
+use Rattle.match_index.specs.Order.{AreInOrder}
 use Rattle.table_store.specs.declared.groups.Group.{Group}
-use Rattle.table_store.specs.Groups.{flat, AreOf, AreInOrder, AreGroups}
+use Rattle.table_store.specs.Groups.{flat, AreOf, AreGroups}
 
 -- the entries of a store, and those before the changes that can be undone
 pub record StoreVersions : Type 0 where
@@ -14,10 +16,17 @@ pub record StoreVersions : Type 0 where
 abbrev pub was : List Group → List Entry
 was groups = flat_map (λ group. group.entries.before) groups
 
--- the entries before were those of the group's table, in order
+-- the entries before were those of the group's table, in order, and each still has its row in the index
 pub record WasGroup (group : Group) : Type 0 where
   pub table : AreOf group.table group.entries.before
   pub order : AreInOrder group.entries.before
+  pub covers : Covers group.index group.entries.before
+
+-- the group is of the same table, and can be undone as before
+pub record IsRowStep (old new : Group) : Type 0 where
+  pub table : old.table ≡ new.table
+  pub before : new.entries.before ≡ old.entries.before
+  pub was : WasGroup old → WasGroup new
 
 -- the group's table is one of the tables, or the group is as it was before
 abbrev pub IsTouched : List ℕ → Group → Type 0

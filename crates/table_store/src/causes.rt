@@ -1,29 +1,19 @@
 //! Why a change of the tables is refused.
 ghost use Rattle.std.specs.Prelude.{◌≡◌, ◌||◌, nat_lt, is_some};
-ghost use Rattle.std.specs.Option.{option_map};
 ghost use Rattle.plane_spec.specs.Entries.{entry_named, insert_cause, absence_cause, is_full, table_size, is_counted, slots_drawn};
 ghost use Rattle.plane_spec.specs.Profiles.{entry_rows};
 ghost use Rattle.table_store.specs.Groups.{flat, AreGroups};
 
-use crate::groups::{Group, entries_of};
-use crate::rows;
+use crate::groups::{self, Group, entries_of};
 use p4_types::code::{Cause, Code, Rule};
 use p4_types::info::Table;
-use p4_types::table::{Entry, EntryAction, EntryName, Room};
-
-/// The entry of that name.
-pub(crate) fn find<'a>(groups: &'a [Group], name: &EntryName) -> Option<&'a Entry>
-    requires { AreGroups groups.now }
-    ensures { option_map (λ entry. entry.now) result ≡ entry_named name.now (flat groups.now) }
-{
-    rows::find(entries_of(groups, name.table), name)
-}
+use p4_types::table::{EntryAction, EntryName, Room};
 
 fn has(groups: &[Group], name: &EntryName) -> bool
     requires { AreGroups groups.now }
     ensures { result ≡ is_some (entry_named name.now (flat groups.now)) }
 {
-    find(groups, name).is_some()
+    groups::find(groups, name).is_some()
 }
 
 /// How many entries a table may have; where the P4Info leaves the number to the switch, it is 1,024.

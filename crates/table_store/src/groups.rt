@@ -2,22 +2,34 @@
 ghost use Rattle.std.specs.Prelude.{◌≡◌, ◌==◌, ◌<◌, ◌+◌, [], ◌∷◌, ◌++◌, ℕ, filter, length, IfOk, IfErr, OnOk, OnErr, IfSome, MatchOption, is_some, true};
 ghost use Rattle.std.specs.Prelude as spec;
 ghost use Rattle.std.specs.List.{AllByRecursion};
-ghost use Rattle.plane_spec.specs.Entries.{inserted, modified, deleted, entry_named};
+ghost use Rattle.std.specs.Option.{option_map};
+ghost use Rattle.plane_spec.specs.Entries.{inserted, modified, deleted, entry_named, best};
 ghost use Rattle.table_store.specs.Order.{AreOfOneTable, AreOfLowerTables};
-ghost use Rattle.table_store.specs.Groups.{flat, AreGroups, IsAt, IsGap, IsFresh};
+ghost use Rattle.table_store.specs.Groups.{flat, IsGroup, AreGroups, IsAt, IsGap, IsFresh};
 ghost use Rattle.table_store.specs.Undo.{was, WasGroup, IsTouched, IsStep};
 
 use crate::rows;
 use list_types::NoMemory;
+use match_index::MatchIndex;
 use p4_types::table::{Entry, EntryChange, EntryName};
 use std::alloc::Global;
 use undo_vec::UndoVec;
 
-/// The entries of a table, in the order in which they were inserted.
+/// The row of an entry that may be gone.
+#[derive(Drop)]
+pub(crate) struct Noted {
+    pub(crate) name: EntryName,
+    pub(crate) seq: u64,
+}
+
+/// The entries of a table, in the order in which they were inserted, and an index of them.
 #[derive(Drop)]
 pub(crate) struct Group {
     pub(crate) table: u32,
     pub(crate) entries: UndoVec<Entry>,
+    pub(crate) index: MatchIndex,
+    /// The rows of entries that the next settling or undoing may leave without their entry.
+    pub(crate) noted: Vec<Noted>,
 }
 
 /// Where the table's group stands, or where it would stand.
@@ -40,6 +52,34 @@ pub(crate) fn entries_of(groups: &[Group], table: u32) -> &[Entry]
     }
 }
 
+/// The entry of that name.
+pub(crate) fn find<'a>(groups: &'a [Group], name: &EntryName) -> Option<&'a Entry>
+    requires { AreGroups groups.now }
+    ensures { option_map (λ entry. entry.now) result ≡ entry_named name.now (flat groups.now) }
+{
+    match place_of(groups, name.table) {
+        Ok(place) => {
+            let group = &groups[place];
+            group.index.find(group.entries.as_slice(), name)
+        }
+        Err(_) => None,
+    }
+}
+
+/// The entry of a table that a key takes.
+pub(crate) fn best<'a>(groups: &'a [Group], table: u32, key: &[u128]) -> Option<&'a Entry>
+    requires { AreGroups groups.now }
+    ensures { option_map (λ entry. entry.now) result ≡ best table key.now (flat groups.now) }
+{
+    match place_of(groups, table) {
+        Ok(place) => {
+            let group = &groups[place];
+            group.index.best(table, key, group.entries.as_slice())
+        }
+        Err(_) => None,
+    }
+}
+
 /// Adds an entry behind those of its table.
 pub(crate) fn insert(groups: &mut Vec<Group>, alloc: Global, entry: Entry) -> Result<(), NoMemory>
     requires groups { AreGroups groups.old.items }
@@ -52,10 +92,9 @@ pub(crate) fn insert(groups: &mut Vec<Group>, alloc: Global, entry: Entry) -> Re
     match place_of(groups, entry.name.table) {
         Ok(place) => {
             let group = &mut groups[place];
-            group.entries.push(entry)?;
+            rows::add(group, alloc, entry)?;
         }
         Err(place) => {
-            let table = entry.name.table;
             groups.insert(place, opened(alloc, entry)?)?;
         }
     }
@@ -67,11 +106,16 @@ fn opened(alloc: Global, entry: Entry) -> Result<Group, NoMemory>
     ensures table { IfOk result (λ group. group.table ≡ entry.name.table) }
     ensures entries { IfOk result (λ group. group.entries.items ≡ entry ∷ []) }
     ensures before { IfOk result (λ group. group.entries.before ≡ []) }
+    ensures group { IfOk result IsGroup }
 {
-    let table = entry.name.table;
-    let mut entries = UndoVec::new(alloc);
-    entries.push(entry)?;
-    Ok(Group { table, entries })
+    let mut group = Group {
+        table: entry.name.table,
+        entries: UndoVec::new(alloc),
+        index: MatchIndex::new(alloc),
+        noted: Vec::new(alloc),
+    };
+    rows::add(&mut group, alloc, entry)?;
+    Ok(group)
 }
 
 /// Gives the entry of that name what the change brings.
@@ -84,7 +128,7 @@ pub(crate) fn change(groups: &mut Vec<Group>, change: &EntryChange) -> Result<()
 {
     if let Ok(place) = place_of(groups, change.name.table) {
         let group = &mut groups[place];
-        rows::change(&mut group.entries, change)?;
+        rows::change(group, change)?;
     }
     Ok(())
 }
@@ -100,7 +144,7 @@ pub(crate) fn remove(groups: &mut Vec<Group>, name: &EntryName) -> Result<(), No
 {
     if let Ok(place) = place_of(groups, name.table) {
         let group = &mut groups[place];
-        rows::remove(&mut group.entries, name)?;
+        rows::remove(group, name)?;
     }
     Ok(())
 }
@@ -114,7 +158,7 @@ pub(crate) fn settle(groups: &mut Vec<Group>, table: u32)
 {
     if let Ok(place) = place_of(groups, table) {
         let group = &mut groups[place];
-        group.entries.settle();
+        rows::settle(group);
     }
 }
 
@@ -129,7 +173,7 @@ pub(crate) fn restore(groups: &mut Vec<Group>, table: u32)
 {
     if let Ok(place) = place_of(groups, table) {
         let group = &mut groups[place];
-        group.entries.undo();
+        rows::restore(group);
     }
 }
 

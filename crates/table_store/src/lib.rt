@@ -5,7 +5,6 @@ mod causes;
 mod changes;
 mod groups;
 pub mod laws;
-mod matching;
 mod rows;
 mod store;
 

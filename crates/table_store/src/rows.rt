@@ -1,55 +1,55 @@
 //! The entries of one table.
-ghost use Rattle.std.specs.Prelude.{◌≡◌, IfOk, OnOk, OnErr};
+ghost use Rattle.std.specs.Prelude.{◌≡◌, ◌==◌, ◌++◌, [], ◌∷◌, None, false, IfOk, OnOk, OnErr};
 ghost use Rattle.std.specs.List.{position};
-ghost use Rattle.std.specs.Option.{option_map};
-ghost use Rattle.plane_spec.specs.Entries.{same_name, entry_named, best, with_change, modified, deleted};
-ghost use Rattle.table_store.specs.Groups.{AreInOrder};
-ghost use Rattle.table_store.specs.Scan.{wins};
+ghost use Rattle.plane_spec.specs.Entries.{same_name, with_change, modified, deleted};
+ghost use Rattle.match_index.specs.Index.{has_row, Covers};
+ghost use Rattle.match_index.specs.Order.{AreInOrder};
+ghost use Rattle.table_store.specs.Groups.{IsGroup, IsFresh};
+ghost use Rattle.table_store.specs.Undo.{WasGroup, IsRowStep};
 
-use crate::matching::{beats, hits, same_name};
+use crate::groups::{Group, Noted};
 use list_types::NoMemory;
+use match_index::MatchIndex;
 use p4_types::table::{Entry, EntryChange, EntryName};
-use undo_vec::UndoVec;
+use std::alloc::Global;
 
-fn place_of(entries: &[Entry], name: &EntryName) -> Option<usize>
+fn place_of_number(entries: &[Entry], seq: u64) -> Option<usize>
+    requires { AreInOrder entries.now }
+    ensures { result ≡ position (λ entry. entry.seq == seq) entries.now }
+{
+    match entries.binary_search_by_key(&seq, |entry| entry.seq) {
+        Ok(place) => Some(place),
+        Err(_) => None,
+    }
+}
+
+fn place_of(index: &MatchIndex, entries: &[Entry], name: &EntryName) -> Option<usize>
+    requires order { AreInOrder entries.now }
+    requires covered { Covers index.now entries.now }
     ensures { result ≡ position (λ entry. same_name name.now entry.name) entries.now }
 {
-    entries
-        .iter()
-        .position(|entry| same_name(name, &entry.name))
-}
-
-/// The entry of that name.
-#[tactic(auto, unfolding(plane_spec::specs::Entries::entry_named))]
-pub(crate) fn find<'a>(entries: &'a [Entry], name: &EntryName) -> Option<&'a Entry>
-    ensures { option_map (λ entry. entry.now) result ≡ entry_named name.now entries.now }
-{
-    entries.iter().find(|entry| same_name(name, &entry.name))
-}
-
-fn wins(table: u32, key: &[u128], entry: &Entry, so_far: Option<&Entry>) -> bool
-    ensures { result ≡ wins table key.now entry.now (option_map (λ other. other.now) so_far.entry) }
-{
-    if !hits(table, key, entry) {
-        return false;
-    }
-    match so_far {
-        Some(other) => beats(entry, other),
-        None => true,
+    match index.find(entries, name) {
+        Some(entry) => place_of_number(entries, entry.seq),
+        None => None,
     }
 }
 
-/// The entry that a key takes.
-pub(crate) fn best<'a>(table: u32, key: &[u128], entries: &'a [Entry]) -> Option<&'a Entry>
-    ensures { option_map (λ entry. entry.now) result ≡ best table key.now entries.now }
+/// Adds an entry behind the others.
+pub(crate) fn add(group: &mut Group, alloc: Global, entry: Entry) -> Result<(), NoMemory>
+    requires group { IsGroup group.old }
+    requires table { entry.name.table ≡ group.old.table }
+    requires fresh { IsFresh entry group.old.entries.items }
+    ensures ok { OnOk result (group.new.entries.items ≡ group.old.entries.items ++ entry ∷ []) }
+    ensures err { OnErr result (group.new.entries.items ≡ group.old.entries.items) }
+    ensures group { IsGroup group.new }
+    ensures step { IsRowStep group.old group.new }
 {
-    let mut found: Option<&Entry> = None;
-    for entry in entries {
-        if wins(table, key, entry, found) {
-            found = Some(entry);
-        }
-    }
-    found
+    let name = entry.name.copy();
+    let seq = entry.seq;
+    group.noted.push(Noted { name, seq })?;
+    group.index.insert(alloc, &entry.name, seq)?;
+    group.entries.push(entry)?;
+    Ok(())
 }
 
 /// An entry with what a change brings, of the same name, sequence number and slot.
@@ -66,31 +66,100 @@ fn with_change(entry: &Entry, change: &EntryChange) -> Result<Entry, NoMemory>
 }
 
 /// Gives the entry of that name, of which there is one at most, what the change brings.
-pub(crate) fn change(entries: &mut UndoVec<Entry>, change: &EntryChange) -> Result<(), NoMemory>
-    requires { AreInOrder entries.old.items }
-    ensures ok { OnOk result (entries.new.items ≡ modified change.now entries.old.items) }
-    ensures err { OnErr result (entries.new.items ≡ entries.old.items) }
-    ensures before { entries.new.before ≡ entries.old.before }
+pub(crate) fn change(group: &mut Group, change: &EntryChange) -> Result<(), NoMemory>
+    requires { IsGroup group.old }
+    ensures ok { OnOk result (group.new.entries.items ≡ modified change.now group.old.entries.items) }
+    ensures err { OnErr result (group.new.entries.items ≡ group.old.entries.items) }
+    ensures group { IsGroup group.new }
+    ensures step { IsRowStep group.old group.new }
 {
-    let place = place_of(entries.as_slice(), &change.name);
+    let place = place_of(&group.index, group.entries.as_slice(), &change.name);
     if let Some(place) = place {
-        let rows = entries.as_slice();
+        let rows = group.entries.as_slice();
         let changed = with_change(&rows[place], change)?;
-        entries.replace(place, changed)?;
+        group.entries.replace(place, changed)?;
     }
     Ok(())
 }
 
 /// Removes the entry of that name, of which there is one at most.
-pub(crate) fn remove(entries: &mut UndoVec<Entry>, name: &EntryName) -> Result<(), NoMemory>
-    requires { AreInOrder entries.old.items }
-    ensures ok { OnOk result (entries.new.items ≡ deleted name.now entries.old.items) }
-    ensures err { OnErr result (entries.new.items ≡ entries.old.items) }
-    ensures before { entries.new.before ≡ entries.old.before }
+pub(crate) fn remove(group: &mut Group, name: &EntryName) -> Result<(), NoMemory>
+    requires { IsGroup group.old }
+    ensures ok { OnOk result (group.new.entries.items ≡ deleted name.now group.old.entries.items) }
+    ensures err { OnErr result (group.new.entries.items ≡ group.old.entries.items) }
+    ensures group { IsGroup group.new }
+    ensures step { IsRowStep group.old group.new }
 {
-    let place = place_of(entries.as_slice(), name);
+    let place = place_of(&group.index, group.entries.as_slice(), name);
     if let Some(place) = place {
-        entries.remove(place)?;
+        let rows = group.entries.as_slice();
+        let seq = rows[place].seq;
+        let name = name.copy();
+        group.noted.push(Noted { name, seq })?;
+        group.entries.remove(place)?;
     }
     Ok(())
+}
+
+// Takes the row out of the index if its entry is gone.
+fn forget(index: &mut MatchIndex, entries: &[Entry], row: &Noted)
+    requires order { AreInOrder entries.now }
+    requires covered { Covers index.old entries.now }
+    ensures covered { Covers index.new entries.now }
+    ensures gone { position (λ entry. entry.seq == row.now.seq) entries.now ≡ None → has_row index.new row.now.name.tests row.now.seq ≡ false }
+{
+    match place_of_number(entries, row.seq) {
+        Some(_) => {}
+        None => index.remove(&row.name, row.seq),
+    }
+}
+
+fn forget_each(index: &mut MatchIndex, entries: &[Entry], rows: &[Noted])
+    requires order { AreInOrder entries.now }
+    requires covered { Covers index.old entries.now }
+    ensures { Covers index.new entries.now }
+{
+    for row in rows {
+        forget(index, entries, row);
+    }
+}
+
+// Takes the noted rows whose entries are gone out of the index.
+fn forget_gone(group: &mut Group)
+    requires { IsGroup group.old }
+    ensures entries { group.new.entries ≡ group.old.entries }
+    ensures table { group.old.table ≡ group.new.table }
+    ensures group { IsGroup group.new }
+{
+    forget_each(
+        &mut group.index,
+        group.entries.as_slice(),
+        group.noted.as_slice(),
+    );
+    group.noted.clear();
+}
+
+/// Keeps the changes. It takes no memory.
+pub(crate) fn settle(group: &mut Group)
+    requires { IsGroup group.old }
+    ensures items { group.new.entries.items ≡ group.old.entries.items }
+    ensures before { group.new.entries.before ≡ group.old.entries.items }
+    ensures table { group.old.table ≡ group.new.table }
+    ensures group { IsGroup group.new }
+{
+    group.entries.settle();
+    forget_gone(group);
+}
+
+/// Undoes the changes. It takes no memory.
+pub(crate) fn restore(group: &mut Group)
+    requires { WasGroup group.old }
+    ensures items { group.new.entries.items ≡ group.old.entries.before }
+    ensures before { group.new.entries.before ≡ group.old.entries.before }
+    ensures table { group.old.table ≡ group.new.table }
+    ensures group { IsGroup group.new }
+    ensures was { WasGroup group.new }
+{
+    group.entries.undo();
+    forget_gone(group);
 }

@@ -9,7 +9,7 @@ ghost use Rattle.table_store.specs.Answers.{Refuses};
 ghost use Rattle.table_store.specs.Order.{AreOfOneTable, AreOfLowerTables};
 
 use crate::groups::{self, Group};
-use crate::{causes, changes, rows};
+use crate::{causes, changes};
 use list_types::{NoMemory, Refusal};
 use p4_types::code::Cause;
 use p4_types::info::Table;
@@ -81,14 +81,14 @@ impl TableStore {
     pub fn find(&self, name: &EntryName) -> Option<&Entry>
         ensures { option_map (λ entry. entry.now) result ≡ entry_named name.now self.now.entries }
     {
-        causes::find(&self.groups, name)
+        groups::find(&self.groups, name)
     }
 
     /// The entry of a table that a key takes, whose numbers stand in the order of the table's match fields.
     pub fn best(&self, table: u32, key: &[u128]) -> Option<&Entry>
         ensures { option_map (λ entry. entry.now) result ≡ best table key.now self.now.entries }
     {
-        rows::best(table, key, self.entries_of(table))
+        groups::best(&self.groups, table, key)
     }
 
     /// Why an INSERT of an entry is refused that takes so many rows: it is there (U10), or there is no room (U12).

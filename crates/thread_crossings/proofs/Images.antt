@@ -13,6 +13,7 @@ use Rattle.p4_types.specs.contracts.info.Info as Info
 use Rattle.p4_types.specs.contracts.table.Entry as Entry
 use Rattle.p4_types.specs.contracts.table.EntryAction as EntryAction
 use Rattle.p4info_model.specs.contracts.valid.P4Info as P4Info
+use Rattle.match_index.specs.contracts.index.MatchIndex as MatchIndex
 use Rattle.plane_image.specs.contracts.image.Image as Image
 use Rattle.plane_state.specs.contracts.config.Config as Config
 use Rattle.plane_state.specs.contracts.plane.Plane as Plane
@@ -93,8 +94,11 @@ entry_action_sync = search (crosses, sendable) depth 60 fits 20000
 entry_sync : IsSync (Entry.the_field).row
 entry_sync = search (entry_action_sync, crosses, sendable) depth 60 fits 20000
 
+index_send : IsSend (MatchIndex.the_field).row
+index_send = search (crosses, maps, sendable) depth 60 fits 20000
+
 store_send : IsSend (TableStore.the_field).row
-store_send = search (entry_send, crosses, sendable) depth 60 fits 20000
+store_send = search (entry_send, index_send, crosses, sendable) depth 60 fits 20000
 
 profiles_send : IsSend (ProfileStore.the_field).row
 profiles_send = search (crosses, sendable) depth 60 fits 20000
@@ -102,8 +106,11 @@ profiles_send = search (crosses, sendable) depth 60 fits 20000
 roles_send : IsSend (UndoRoles.the_field).row
 roles_send = search (crosses, sendable) depth 60 fits 20000
 
+index_sync : IsSync (MatchIndex.the_field).row
+index_sync = search (crosses, maps, sendable) depth 60 fits 20000
+
 store_sync : IsSync (TableStore.the_field).row
-store_sync = search (entry_sync, crosses, sendable) depth 60 fits 20000
+store_sync = search (entry_sync, index_sync, crosses, sendable) depth 60 fits 20000
 
 profiles_sync : IsSync (ProfileStore.the_field).row
 profiles_sync = search (crosses, sendable) depth 60 fits 20000

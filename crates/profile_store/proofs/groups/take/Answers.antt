@@ -11,7 +11,7 @@ returns-in_ok-replace-clause-groups c = ap (map (λ (row : GroupRow). row.group)
 
 pub returns-in_ok-replace-clause-uses : goal.returns-in_ok-replace-clause-uses
 returns-in_ok-replace-clause-uses c = λ p i. ap (λ (rows : List GroupRow). uses_of_group_row (group_row p i rows)) c.in_ok-replace.ensures.ok
-    ∙ uses_raised _ _ _ _ c.requires.order (rw c.as_slice.ensures at c.in-Ok.ensures.found) c.index-as_slice-place.result _ (rw c.as_slice-in-Ok.ensures at c.index-as_slice-place.is) c.in_ok-group.ensures c.in_ok-uses.ensures p i
+    ∙ uses_raised _ _ _ _ c.requires.order (rw c.as_slice.ensures at c.in-Ok.ensures.found) c.index-as_slice-place.result _ (rw c.as_slice-in-Ok.ensures at c.index-as_slice-place.is) c.in_ok-group.ensures c.in_ok-uses.ensures.sum p i
 
 pub returns-in_ok-replace-clause-order : goal.returns-in_ok-replace-clause-order
 returns-in_ok-replace-clause-order c = subst (AreInOrder key_before group_key) (sym c.in_ok-replace.ensures.ok)

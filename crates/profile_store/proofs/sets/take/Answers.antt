@@ -9,7 +9,7 @@ returns-in_ok-actions-in-Ok-clause-actions c =
     let none : SetCount = record { profile = 0; actions = 0 } in
     on_ok c.replace.result _ _ c.replace.ensures.ok
     (λ is p. ap (λ (sets : List SetCount). count_of (set_count p sets)) is
-    ∙ actions_raised c.args.sets.now.items c.args.profile c.in-Ok.place c.requires (rw c.as_slice.ensures at c.in-Ok.ensures.found) none c.in_ok-actions-in-Ok.actions c.args.size (rw c.as_slice-in-Ok.ensures at c.in_ok-actions-in-Ok.ensures) p)
+    ∙ actions_raised c.args.sets.now.items c.args.profile c.in-Ok.place c.requires (rw c.as_slice.ensures at c.in-Ok.ensures.found) none c.in_ok-actions-in-Ok.actions c.args.size (rw c.as_slice-in-Ok.ensures at c.in_ok-actions-in-Ok.ensures.sum) p)
 
 pub returns-in_ok-actions-in-Ok-clause-order : goal.returns-in_ok-actions-in-Ok-clause-order
 returns-in_ok-actions-in-Ok-clause-order c =

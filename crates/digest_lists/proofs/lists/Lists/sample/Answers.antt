@@ -1,12 +1,12 @@
-use Rattle.std.proofs.Common.{◌≡◌, ℕ, List, Option, Some, Result, Ok, Err, IfOk, OnOk, sym, ap, ◌∙◌}
+use Rattle.std.proofs.Common.{◌≡◌, ℕ, false, List, Option, Some, Result, Ok, Err, IfOk, IsSomeAnd, OnOk, OnErr, sym, ap, subst, ◌∙◌}
 use Rattle.std.specs.List.{position, find}
 use Rattle.std.specs.Option.{option_and_then}
 use Rattle.list_types.specs.declared.memory.NoMemory.{NoMemory}
 use Rattle.p4_types.specs.declared.messages.DigestList.{DigestList}
 use Rattle.p4_types.specs.declared.messages.P4Data.{P4Data}
 use Rattle.digest_lists.specs.State.{DigestState}
-use Rattle.digest_lists.specs.Sending.{sent_by_sample, after_sample}
-use Rattle.digest_lists.specs.Fold.{take_sample, sent_at_sample}
+use Rattle.digest_lists.specs.Sending.{is_passed_over, sent_by_sample, after_sample}
+use Rattle.digest_lists.specs.Fold.{IsTaken, take_sample, sent_at_sample}
 use Rattle.digest_lists.proofs.Places.{of_id, changed_by, found_by, change_first_none, find_none}
 use Rattle.digest_lists.proofs.Soundness.{sound_at, same_after_sample, few_after_sample}
 use Rattle.digest_lists.proofs.lists.Lists.sample.Goals as goal
@@ -20,6 +20,18 @@ sent_one (Err e') digests id content now i d e h = h
 changed_one : (r : Result (Option DigestList) NoMemory) (new wanted : DigestState) (left right : List DigestState) → (new ≡ wanted → left ≡ right) → OnOk r (new ≡ wanted) → OnOk r (left ≡ right)
 changed_one (Ok sent) new wanted left right f h = f h
 changed_one (Err e) new wanted left right f h = h
+
+-- what the digest's own call needs memory for is a sample that the digests take
+taken_one : (r : Result (Option DigestList) NoMemory) (digests : List DigestState) (id : ℕ) (content : P4Data) (now : ℕ) (d : DigestState) → find (of_id id) digests ≡ Some d
+    → OnErr r (is_passed_over d content now ≡ false) → OnErr r (IsTaken digests id content now)
+taken_one (Ok sent) digests id content now d e h = h
+taken_one (Err e') digests id content now d e h = subst (λ found. IsSomeAnd found (λ digest. is_passed_over digest content now ≡ false)) (sym e) h
+
+pub returns-in-Some-clause-taken : goal.returns-in-Some-clause-taken
+returns-in-Some-clause-taken c =
+    taken_one c.sample.result c.args.self.now c.args.digest c.args.sample c.args.now c.index_mut.result.now
+    (ap (find (of_id c.args.digest)) (sym c.self.view_is) ∙ found_by (of_id c.args.digest) c.self.inside.digests.items c.in-Some.place c.index_mut.result.now (ap (λ l. position (of_id c.args.digest) l) (sym c.deref.ensures.value) ∙ sym c.in-Some.ensures) c.index_mut.ensures.value)
+    c.sample.ensures.taken
 
 pub returns-in-Some-clause-sent : goal.returns-in-Some-clause-sent
 returns-in-Some-clause-sent c =

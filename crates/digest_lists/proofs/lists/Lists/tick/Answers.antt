@@ -1,14 +1,28 @@
-use Rattle.std.proofs.Common.{Some, sym, ap, ◌∙◌}
+use Rattle.std.proofs.Common.{◌≡◌, ℕ, List, None, Some, sym, ap, ◌∙◌}
 use Rattle.std.specs.List.{position, find}
 use Rattle.std.specs.Option.{option_map}
+use Rattle.p4_types.specs.declared.messages.DigestList.{DigestList}
 use Rattle.digest_lists.specs.State.{DigestState}
 use Rattle.digest_lists.specs.Sending.{is_due, list_of, after_sending}
-use Rattle.digest_lists.specs.Fold.{send_due}
+use Rattle.digest_lists.specs.Fold.{send_due, sent_at_tick}
 use Rattle.digest_lists.proofs.Places.{changed_by, found_by, change_first_none, find_none}
 use Rattle.std.proofs.Common.{refl, ◌++◌, [], ◌∷◌}
 use Rattle.digest_lists.specs.Sending.{sent_list}
 use Rattle.digest_lists.proofs.Soundness.{sound_at, few_newest}
 use Rattle.digest_lists.proofs.lists.Lists.tick.Goals as goal
+
+never : (list : DigestList) → None ≡ Some list → ⊥
+never list e = cc
+
+-- where a digest is due, a list is sent
+sends : (digests : List DigestState) (now : ℕ) (d : DigestState) → find (λ digest. is_due digest now) digests ≡ Some d → sent_at_tick digests now ≡ None → ⊥
+sends digests now d e none = never (list_of d now) (sym none ∙ ap (option_map (λ digest. list_of digest now)) e)
+
+pub returns-in_err-list-in-Some-clause-none_due : goal.returns-in_err-list-in-Some-clause-none_due
+returns-in_err-list-in-Some-clause-none_due c = λ none. absurd (sends c.args.self.now c.args.now c.index_mut.result.now (ap (find (λ digest. is_due digest c.args.now)) (sym c.self.view_is) ∙ found_by (λ (digest : DigestState). is_due digest c.args.now) c.self.inside.digests.items c.in-Some.place c.index_mut.result.now (ap (position (λ digest. is_due digest c.args.now)) (sym c.deref.ensures.value) ∙ sym c.in-Some.ensures) c.index_mut.ensures.value) none)
+
+pub returns-in_ok-list-in-Some-clause-none_due : goal.returns-in_ok-list-in-Some-clause-none_due
+returns-in_ok-list-in-Some-clause-none_due c = λ none. absurd (sends c.args.self.now c.args.now c.index_mut.result.now (ap (find (λ digest. is_due digest c.args.now)) (sym c.self.view_is) ∙ found_by (λ (digest : DigestState). is_due digest c.args.now) c.self.inside.digests.items c.in-Some.place c.index_mut.result.now (ap (position (λ digest. is_due digest c.args.now)) (sym c.deref.ensures.value) ∙ sym c.in-Some.ensures) c.index_mut.ensures.value) none)
 
 pub returns-in_ok-list-in-Some-clause-sent : goal.returns-in_ok-list-in-Some-clause-sent
 returns-in_ok-list-in-Some-clause-sent c =

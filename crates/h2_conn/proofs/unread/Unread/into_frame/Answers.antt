@@ -19,4 +19,4 @@ returns c =
     let whole : c.from_vec-in_default.result ≡ take c.args.head.now.length (drop 9 c.args.self) =
     c.from_vec-in_default.ensures ∙ c.truncate-in_default.ensures.items ∙ ap (λ x. take c.args.head.now.length x) c.into_vec-payload.ensures
     ∙ plain_whole c.self.inside.head c.self.inside.payload c.args.self c.self.inside.padding c.args.head.now.length c.self.invariant c.self.view_is c.requires.whole (elim c.in_default.branch [ in_default-via-in-Some+else-count-gt0 w ↦ inr (omega (arith, w.if-count-gt0.false)) | in_default-via-in_default w ↦ inl w.in_default.is ]) in
-    rw (sym whole) c.read_gathered.ensures
+    rw (sym whole) c.read_gathered.ensures.exact

@@ -46,4 +46,4 @@ returns-clause-counted c =
     let named = c.in_ok-take.ensures in
     let more : HasMore c.args.change.now.action i.profiles.now c.take.new.self.now = record { members = named.member_uses; groups = named.group_uses; sets = named.set_actions } in
     counted_as _ _ (same_plane old.plane _ _ _ _ _ _ c.in_default-insert.ensures.ok named.members named.groups)
-    (inserted_counted old c.take.new.self.now _ (new_entry c.in-Some-table.table.now c.args.room c.args.change.now) h more (c.in_ok-rows.ensures ∙ ap (λ n. i.rows + n) c.entry_rows.ensures))
+    (inserted_counted old c.take.new.self.now _ (new_entry c.in-Some-table.table.now c.args.room c.args.change.now) h more (c.in_ok-rows.ensures.sum ∙ ap (λ n. i.rows + n) c.entry_rows.ensures))

@@ -19,4 +19,4 @@ returns-clause-counted c =
     counted_as _ _ (same_plane old.plane _ _ _ _ _ _ refl (ap (λ rows. members_of (record mid { members = rows })) made.members ∙ taken.members)
     (made.groups ∙ ap (λ gs. group_inserted c.in_ok-shared.shared gs) same ∙ ap (λ (g : Group). group_inserted g old.plane.groups) c.in_ok-shared.ensures))
     (group_inserted_counted old new _ c.args.group.now h (λ p j. ap (λ rows. uses_of_member p j (record mid { members = rows })) made.members ∙ taken.uses p j)
-    (λ p j. made.uses p j ∙ ap (λ rows. uses_of_group p j (record mid { groups = rows })) taken.groups) (made.sets ∙ taken.sets) (c.in_ok-rows.ensures ∙ ap (λ n. i.rows + n) c.group_rows.ensures))
+    (λ p j. made.uses p j ∙ ap (λ rows. uses_of_group p j (record mid { groups = rows })) taken.groups) (made.sets ∙ taken.sets) (c.in_ok-rows.ensures.sum ∙ ap (λ n. i.rows + n) c.group_rows.ensures))

@@ -13,4 +13,4 @@ returns-clause-counted c =
     let h : IsCounted old = subst (λ (v : CountedVersions). IsCounted v.now) (sym c.self.view_is) c.requires.counted in
     let made = c.in_ok-insert_member.ensures in
     counted_as _ _ (same_plane old.plane _ _ _ _ _ _ refl (made.members ∙ ap (λ (m : Member). member_inserted m old.plane.members) c.copy.ensures) (ap (λ rows. groups_of (record i.profiles.now { groups = rows })) made.groups))
-    (member_inserted_counted old c.insert_member.new.self.now _ c.args.member.now h made.uses made.groups made.sets c.in_ok-rows.ensures)
+    (member_inserted_counted old c.insert_member.new.self.now _ c.args.member.now h made.uses made.groups made.sets c.in_ok-rows.ensures.sum)

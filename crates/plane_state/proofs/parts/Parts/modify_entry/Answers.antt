@@ -56,4 +56,4 @@ returns-clause-counted c =
     let less : HasMore c.in_ok-action.action new mid = record { members = λ p j. sym (back.member_uses p j); groups = λ p j. sym (back.group_uses p j); sets = λ p. sym (back.set_actions p) } in
     counted_as _ _ (same_plane old.plane _ _ _ _ _ _ c.in_default-modify.ensures.ok (back.members ∙ named.members) (back.groups ∙ named.groups))
     (modified_counted old mid new _ c.args.change.now former c.tables.ensures.order (sym c.in-Some.ensures) h more (subst (λ a. HasMore a new mid) c.in_ok-action.ensures less)
-    (omega (arith, within, c.in_ok-rows.ensures, c.entry_rows-freed.ensures, c.entry_rows-taken.ensures)))
+    (omega (arith, within, c.in_ok-rows.ensures.sum, c.entry_rows-freed.ensures, c.entry_rows-taken.ensures)))

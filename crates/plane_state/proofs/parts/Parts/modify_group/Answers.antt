@@ -42,4 +42,4 @@ returns-clause-counted c =
     (group_modified_counted old new _ c.args.group.now former h c.groups.ensures.order refl (sym c.in-Some.ensures)
     (λ p j. omega (arith, ap (λ rows. uses_of_member p j (record less { members = rows })) made.members, given.uses p j, taken.uses p j, is_former p j))
     (λ p j. made.uses p j ∙ ap (λ rows. uses_of_group p j (record less { groups = rows })) (given.groups ∙ taken.groups)) (made.sets ∙ given.sets ∙ taken.sets)
-    (omega (arith, within, c.in_ok-rows.ensures, c.group_rows.ensures, c.group_rows-freed.ensures, ap group_rows c.in_ok-left.ensures)))
+    (omega (arith, within, c.in_ok-rows.ensures.sum, c.group_rows.ensures, c.group_rows-freed.ensures, ap group_rows c.in_ok-left.ensures)))

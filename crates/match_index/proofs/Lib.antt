@@ -1,0 +1,9 @@
+pub mod Bits
+pub mod Fingerprints
+pub mod Among
+pub mod Ranks
+pub mod Named
+pub mod Ordered
+pub mod Bests
+pub mod Rows
+pub mod Searched

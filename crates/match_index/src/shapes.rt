@@ -1,0 +1,112 @@
+//! Rows by their shapes: by which parts of a key's values their tests compare.
+ghost use Rattle.std.specs.Prelude.{◌≡◌, false, IfOk, IfSome, OnOk, OnErr, vec_len};
+ghost use Rattle.std.specs.List.{position};
+ghost use Rattle.std.specs.Option.{option_map};
+ghost use Rattle.match_index.specs.Cuts.{has_cuts};
+ghost use Rattle.match_index.specs.Shapes.{shape_of, numbers_of, has_row, IsOnlyRow, AddsRow, KeepsOthers, AreSameRows, IsEmptyAt};
+
+use crate::bins;
+use crate::cuts::{Cut, cuts_of, has_cuts, name_print};
+use crate::seqs::Seqs;
+use list_types::NoMemory;
+use p4_types::keys::FieldTest;
+use std::alloc::Global;
+use std::collections::HashMap;
+
+/// The rows whose tests compare the same parts: the sequence numbers of each, in the bin of its fingerprint.
+#[derive(Drop)]
+pub(crate) struct Shape {
+    pub(crate) cuts: Vec<Cut>,
+    pub(crate) bins: HashMap<u64, Seqs>,
+}
+
+fn shape_of<'a>(shapes: &'a [Shape], tests: &[FieldTest]) -> Option<&'a Shape>
+    ensures { option_map (λ shape. shape.now) result ≡ shape_of shapes.now tests.now }
+{
+    shapes
+        .iter()
+        .find(|shape| has_cuts(shape.cuts.as_slice(), tests))
+}
+
+/// The numbers in the bin that a row of the tests has in its shape.
+pub(crate) fn numbers_of<'a>(shapes: &'a [Shape], tests: &[FieldTest]) -> &'a [u64]
+    ensures { result.now ≡ numbers_of shapes.now tests.now }
+{
+    match shape_of(shapes, tests) {
+        Some(shape) => bins::at(&shape.bins, name_print(tests)),
+        None => &[],
+    }
+}
+
+fn place_of(shapes: &[Shape], tests: &[FieldTest]) -> Option<usize>
+    ensures { result ≡ position (λ shape. has_cuts shape.cuts.items tests.now) shapes.now }
+{
+    shapes
+        .iter()
+        .position(|shape| has_cuts(shape.cuts.as_slice(), tests))
+}
+
+// A shape of one row, which was opened for it.
+fn opened(alloc: Global, tests: &[FieldTest], seq: u64) -> Result<Shape, NoMemory>
+    ensures { IfOk result (IsOnlyRow tests.now seq) }
+{
+    let cuts = cuts_of(alloc, tests)?;
+    let mut bins = HashMap::new(alloc);
+    bins::put(&mut bins, alloc, name_print(tests), seq)?;
+    Ok(Shape { cuts, bins })
+}
+
+/// Adds a row.
+pub(crate) fn insert(
+    shapes: &mut Vec<Shape>,
+    alloc: Global,
+    tests: &[FieldTest],
+    seq: u64,
+) -> Result<(), NoMemory>
+    ensures ok { OnOk result (AddsRow shapes.old.items shapes.new.items tests.now seq) }
+    ensures err { OnErr result (AreSameRows shapes.old.items shapes.new.items) }
+{
+    match place_of(shapes, tests) {
+        Some(place) => {
+            let shape = &mut shapes[place];
+            bins::put(&mut shape.bins, alloc, name_print(tests), seq)?;
+        }
+        None => {
+            let shape = opened(alloc, tests, seq)?;
+            shapes.push(shape)?;
+        }
+    }
+    Ok(())
+}
+
+// Takes a row away, and says where its shape stands, if that is left with no row.
+fn lose(shapes: &mut Vec<Shape>, tests: &[FieldTest], seq: u64) -> Option<usize>
+    ensures gone { has_row shapes.new.items tests.now seq ≡ false }
+    ensures others { KeepsOthers shapes.old.items shapes.new.items seq }
+    ensures emptied { IfSome result (IsEmptyAt shapes.new.items) }
+    ensures len { vec_len shapes.new ≡ vec_len shapes.old }
+{
+    match place_of(shapes, tests) {
+        Some(place) => {
+            let shape = &mut shapes[place];
+            bins::remove(&mut shape.bins, name_print(tests), seq);
+            if bins::are_empty(&shape.bins) {
+                Some(place)
+            } else {
+                None
+            }
+        }
+        None => None,
+    }
+}
+
+/// Takes a row away, and the shape that it was the last of. It takes no memory.
+pub(crate) fn remove(shapes: &mut Vec<Shape>, tests: &[FieldTest], seq: u64)
+    ensures gone { has_row shapes.new.items tests.now seq ≡ false }
+    ensures others { KeepsOthers shapes.old.items shapes.new.items seq }
+{
+    if let Some(place) = lose(shapes, tests, seq) {
+        shapes.remove(place);
+        remove(shapes, tests, seq);
+    }
+}

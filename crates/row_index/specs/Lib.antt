@@ -1,9 +1,0 @@
-pub mod Hash
-pub mod Reach
-pub mod Places
-pub mod Aims
-pub mod Threads
-pub mod Rows
-pub mod Best
-pub mod Finding
-pub mod Indexing

@@ -1,4 +1,0 @@
-pub mod Rows
-pub mod Free
-pub mod Lending
-pub mod LendingRow

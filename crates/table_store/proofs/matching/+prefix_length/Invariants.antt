@@ -1,5 +1,0 @@
-use Rattle.std.proofs.Common.{length}
-use Rattle.table_store.proofs.matching.+prefix_length.Given as goal
-
-abbrev pub decreases-prefix_length : goal.decreases-prefix_length
-decreases-prefix_length l = length l.tests.now

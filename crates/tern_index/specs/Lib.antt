@@ -1,4 +1,0 @@
-pub mod Best
-pub mod Walk
-pub mod Groups
-pub mod Grouping
