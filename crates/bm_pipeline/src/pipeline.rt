@@ -7,7 +7,6 @@ use std::marker::Model;
 
 /// A pipeline: a program within the limits, in which each place is in range, expressions are settled, and neither the
 /// parser nor the graph of tables and conditionals has a loop. A contract sees it as the program.
-#[derive(Drop)]
 pub struct Pipeline {
     program: Program,
 }
@@ -25,6 +24,13 @@ impl Model for Pipeline {
     ghost view = { λ pipeline. pipeline.program };
 
     ghost invariant = { λ pipeline. validity.IsValid pipeline.program };
+}
+
+// Written out, so that those who let one go need not look into it.
+impl Drop for Pipeline {
+    fn drop(self) {
+        let Self { program: _program } = self;
+    }
 }
 
 impl Pipeline {

@@ -252,7 +252,6 @@ pub struct Pipelines {
 }
 
 /// A program.
-#[derive(Drop)]
 pub struct RawProgram {
     pub header_types: List<HeaderType>,
     pub headers: List<Header>,
@@ -267,4 +266,24 @@ pub struct RawProgram {
     pub pipelines: Pipelines,
     /// Whether it lists registers, meters, extern instances, value sets, stacks or unions.
     pub lists_left_out: bool,
+}
+
+// Written out, so that those who let one go need not look into it.
+impl Drop for RawProgram {
+    fn drop(self) {
+        let Self {
+            header_types: _header_types,
+            headers: _headers,
+            errors: _errors,
+            parser: _parser,
+            deparser: _deparser,
+            counter_arrays: _counter_arrays,
+            calculations: _calculations,
+            checksums: _checksums,
+            learn_lists: _learn_lists,
+            actions: _actions,
+            pipelines: _pipelines,
+            lists_left_out: _,
+        } = self;
+    }
 }

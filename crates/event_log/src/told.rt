@@ -7,6 +7,7 @@ use crate::events::{Adds, EventLog, Law, Nothing};
 use crate::machine::Machine;
 use logbook::{Offer, Seen, Start, Word};
 use std::marker::Model;
+use std::sync::Wait;
 
 /// Events with which a list begins, and will begin for good. It can be copied and goes from thread to thread.
 #[derive(Drop)]
@@ -38,6 +39,14 @@ pub fn open<E, M: Machine<E>>() -> (EventLog<E, M>, Told<E, M>)
         },
         Told { count: 0, seen },
     )
+}
+
+// Waits for good.
+fn never_returns<R: Wait>(rt: &R)
+    ensures { ⊥ }
+{
+    for _ in rt.forever() {}
+    unreachable!()
 }
 
 impl<E, M: Machine<E>> Told<E, M> {
@@ -81,13 +90,13 @@ impl<E, M: Machine<E>> Told<E, M> {
         }
     }
 
-    /// Adds an event to the list, and says whether it did. It did not where the list had more events than these, of which then one more
-    /// at least is known. A list has room for 2^64 - 1 events.
-    pub fn add(&mut self, log: &EventLog<E, M>, event: &E) -> bool
+    /// Adds an event to the list. It waits for good where the list went on without these, so those who add to one list add to one
+    /// of these, under a lock. A list has room for 2^64 - 1 events.
+    pub fn add<R: Wait>(&mut self, rt: &R, log: &EventLog<E, M>, event: &E)
         requires log { log.now ≡ self.old.list }
         requires room { length self.old.events < 2 ^ 64 - 1 }
         requires may { M.may (after M.applied M.start self.old.events) event.now }
-        ensures { MatchBool result (self.new ≡ with_event self.old event.now) (IsLonger self.old self.new) }
+        ensures { self.new ≡ with_event self.old event.now }
     {
         let mut offer: Offer<E, u64, Law<M>, Nothing> = self
             .seen
@@ -103,7 +112,9 @@ impl<E, M: Machine<E>> Told<E, M> {
                 &mut offer,
                 &mut pen,
             );
-        self.count = if found == count { count + 1 } else { found };
-        found == count
+        if found != count {
+            never_returns(rt);
+        }
+        self.count = count + 1;
     }
 }

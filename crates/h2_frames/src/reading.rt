@@ -3,7 +3,7 @@ ghost use Rattle.std.specs.Prelude.{◌≡◌, ◌==◌, ◌||◌, Err, ◌+◌,
 ghost use Rattle.std.specs.List.{list_any};
 ghost use Rattle.list_types.specs.Results.{Gives, GivesExactly};
 ghost use Rattle.h2_frames.specs.Reading.{has, number_at, low_31_at, unpadded, priority_at, is_padded_data, setting_at, settings_in, unknown_at, breaks_protocol, breaks_flow_control, checked, data_at, headers_at, priority_frame_at, rst_stream_at, settings_at, push_promise_at, ping_at, goaway_at, window_update_at, continuation_at, frame_at, asks_memory};
-ghost use Rattle.h2_frames.specs.Codes.{padded_flag, end_headers_flag};
+ghost use Rattle.h2_frames.specs.Codes.{ack_flag, padded_flag, end_headers_flag};
 ghost use Rattle.h2_frames.specs.Layout.{payload_of};
 ghost use Rattle.h2_frames.specs.Laws.{NumbersFit};
 
@@ -96,7 +96,8 @@ fn priority_at(bytes: &[u8]) -> StreamPriority
 
 #[tactic(auto, unfolding(crate::specs::Reading::data_at))]
 fn data(alloc: Global, head: &Head, bytes: &[u8]) -> Result<Frame, Refusal<H2Code>>
-    ensures { Gives (λ x. x) result (data_at head.now bytes.now) }
+    ensures exact { Gives (λ x. x) result (data_at head.now bytes.now) }
+    ensures broken { (code : H2Code) → data_at head.now bytes.now ≡ Err code → result ≡ Err (Refusal.For code) }
 {
     let body = unpadded(bytes, head.flags, 0)?;
     if head.stream == 0 {
@@ -203,7 +204,8 @@ fn setting(bytes: &[u8]) -> Setting
 
 fn settings_in(alloc: Global, bytes: &[u8]) -> Result<List<Setting>, Refusal<H2Code>>
     requires { length bytes.now % 6 ≡ 0 }
-    ensures { Gives (λ x. x) result (Ok (settings_in (length bytes.now / 6) bytes.now)) }
+    ensures exact { Gives (λ x. x) result (Ok (settings_in (length bytes.now / 6) bytes.now)) }
+    ensures memory { result ≡ Err Refusal.NoMemory → 0 < length bytes.now }
 {
     let mut settings = List::new(alloc);
     let mut rest = bytes;
@@ -258,6 +260,7 @@ fn checked(settings: &[Setting]) -> Result<(), H2Code>
 fn settings(alloc: Global, head: &Head, bytes: &[u8]) -> Result<Frame, Refusal<H2Code>>
     ensures exact { Gives (λ x. x) result (settings_at head.now bytes.now) }
     ensures memory { result ≡ Err Refusal.NoMemory → (head.now.stream ≡ 0) × (length bytes.now % 6 ≡ 0) }
+    ensures listed { result ≡ Err Refusal.NoMemory → (has head.now.flags ack_flag ≡ false) × (0 < length bytes.now) }
 {
     let ack = has(head.flags, ACK);
     if bytes.len() % 6 != 0 || (ack && !bytes.is_empty()) {
@@ -375,6 +378,8 @@ fn frame(alloc: Global, head: &Head, bytes: &[u8]) -> Result<Frame, Refusal<H2Co
     ensures exact { Gives (λ x. x) result (frame_at head.now bytes.now) }
     ensures memory { result ≡ Err Refusal.NoMemory → asks_memory head.now ≡ true }
     ensures settings { head.now.kind ≡ 4 → result ≡ Err Refusal.NoMemory → (head.now.stream ≡ 0) × (length bytes.now % 6 ≡ 0) }
+    ensures listed { head.now.kind ≡ 4 → result ≡ Err Refusal.NoMemory → (has head.now.flags ack_flag ≡ false) × (0 < length bytes.now) }
+    ensures data { (code : H2Code) → head.now.kind ≡ 0 → data_at head.now bytes.now ≡ Err code → result ≡ Err (Refusal.For code) }
 {
     match head.kind {
         0 => data(alloc, head, bytes),
@@ -400,6 +405,8 @@ pub fn read_payload(alloc: Global, head: &Head, bytes: &[u8]) -> Result<Frame, R
     ensures exact { Gives (λ x. x) result (frame_at head.now bytes.now) }
     ensures memory { result ≡ Err Refusal.NoMemory → asks_memory head.now ≡ true }
     ensures settings { head.now.kind ≡ 4 → result ≡ Err Refusal.NoMemory → (head.now.stream ≡ 0) × (length bytes.now % 6 ≡ 0) }
+    ensures listed { head.now.kind ≡ 4 → result ≡ Err Refusal.NoMemory → (has head.now.flags ack_flag ≡ false) × (0 < length bytes.now) }
+    ensures data { (code : H2Code) → head.now.kind ≡ 0 → data_at head.now bytes.now ≡ Err code → result ≡ Err (Refusal.For code) }
     ensures fits { head.now.stream < 2 ^ 31 → IfOk result NumbersFit }
     ensures short { head.now.stream < 2 ^ 31 → IfOk result (λ frame. length (payload_of frame) ≤ length bytes.now) }
 {
@@ -430,6 +437,8 @@ pub fn read_gathered(alloc: Global, head: &Head, bytes: ByteList) -> Result<Fram
     ensures exact { Gives (λ x. x) result (frame_at head.now bytes) }
     ensures memory { result ≡ Err Refusal.NoMemory → (head.now.kind == 4 || is_padded_data head.now) ≡ true }
     ensures settings { head.now.kind ≡ 4 → result ≡ Err Refusal.NoMemory → (head.now.stream ≡ 0) × (length bytes % 6 ≡ 0) }
+    ensures listed { head.now.kind ≡ 4 → result ≡ Err Refusal.NoMemory → (has head.now.flags ack_flag ≡ false) × (0 < length bytes) }
+    ensures data { (code : H2Code) → head.now.kind ≡ 0 → data_at head.now bytes ≡ Err code → result ≡ Err (Refusal.For code) }
 {
     match head.kind {
         0 if !has(head.flags, PADDED) => Ok(gathered_data(head, bytes)?),

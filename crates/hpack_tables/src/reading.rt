@@ -1,5 +1,5 @@
 //! Reading the headers of a block (RFC 7541, sections 3 and 6).
-ghost use Rattle.std.specs.Prelude.{◌≡◌, ◌≤◌, length, Ok, Err};
+ghost use Rattle.std.specs.Prelude.{◌≡◌, ◌≤◌, length, true, Ok, Err};
 ghost use Rattle.list_types.specs.Results.{Gives, GivesExactly};
 ghost use Rattle.hpack_tables.specs.Blocks.{indexed_at, name_at, literal_at, added, field_at, fields_in, is_update, update_at, updates_in, block_at};
 
@@ -20,7 +20,8 @@ fn indexed<'a>(
     table: &DynamicTable,
     bytes: &'a [u8],
 ) -> Result<(Header, &'a [u8]), Refusal<HpackFault>>
-    ensures { Gives (λ x. (x.0, x.1.now)) result (indexed_at table.now bytes.now) }
+    ensures exact { Gives (λ x. (x.0, x.1.now)) result (indexed_at table.now bytes.now) }
+    ensures fault { (fault : HpackFault) → indexed_at table.now bytes.now ≡ Err fault → result ≡ Err (Refusal.For fault) }
 {
     let (index, rest) = integer(bytes, 7, HpackFault::BadIndex)?;
     let (name, value) = table.entry(index)?;
@@ -82,7 +83,8 @@ fn field<'a>(
     table: &mut DynamicTable,
     bytes: &'a [u8],
 ) -> Result<(Header, &'a [u8]), Refusal<HpackFault>>
-    ensures { Gives (λ x. (x.0, table.new, x.1.now)) result (field_at table.old bytes.now) }
+    ensures exact { Gives (λ x. (x.0, table.new, x.1.now)) result (field_at table.old bytes.now) }
+    ensures update { is_update bytes.now ≡ true → result ≡ Err (Refusal.For HpackFault.TableSize) }
 {
     let first = first(bytes);
     if first >= 128 {

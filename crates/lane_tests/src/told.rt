@@ -57,17 +57,24 @@ impl<J: Naming> Latest<J> {
     {
         self.told = told.again();
     }
+
+    fn add<R: Wait>(&mut self, rt: &R, log: &EventLog<u64, Sum>, number: u64) -> bool
+        requires { log.now ≡ J.list }
+    {
+        add(rt, log, &mut self.told, number)
+    }
 }
 
-// Adds an event, and says whether it did.
-fn add(log: &EventLog<u64, Sum>, told: &mut Told<u64, Sum>, number: u64) -> bool
+// Adds an event, if there is room for one, and says whether it did.
+fn add<R: Wait>(rt: &R, log: &EventLog<u64, Sum>, told: &mut Told<u64, Sum>, number: u64) -> bool
     requires { told.old.list ≡ log.now }
     ensures { told.new.list ≡ log.now }
 {
     if told.len() == u64::MAX {
         return false;
     }
-    told.add(log, &(number % 10))
+    told.add(rt, log, &(number % 10));
+    true
 }
 
 // Adds events and tells each; how many were added.
@@ -83,7 +90,7 @@ fn write<J: Naming, R: Wait>(
     let mut told = told;
     let mut added = 0;
     for number in 0..EVENTS {
-        if add(log, &mut told, number) {
+        if add(rt, log, &mut told, number) {
             added += 1;
         }
         latest.lock(rt).set(&told);
@@ -164,7 +171,24 @@ fn write_beside_readers<J: Naming + Send + Sync, R: Threads + Wait + Abort + Syn
     assert!(rt; last.len() == EVENTS);
 }
 
-// Both add to the list. Each event that one added is an event more of the list, and no other.
+// Adds events to what is under the lock; how many were added.
+fn write_under_lock<J: Naming, R: Wait>(
+    rt: &R,
+    log: &EventLog<u64, Sum>,
+    latest: &Mutex<Latest<J>>,
+) -> u64
+    requires { log.now ≡ J.list }
+{
+    let mut added = 0;
+    for number in 0..EVENTS {
+        if latest.lock(rt).add(rt, log, number) {
+            added += 1;
+        }
+    }
+    added
+}
+
+// Two add to the list under one lock. Each event that one added is an event more of the list, and no other.
 fn write_by_two<J: Naming + Send + Sync, R: Threads + Wait + Abort + Sync>(
     rt: &R,
     log: EventLog<u64, Sum>,
@@ -173,24 +197,21 @@ fn write_by_two<J: Naming + Send + Sync, R: Threads + Wait + Abort + Sync>(
     requires log { log ≡ J.list }
     requires first { first.list ≡ J.list }
 {
-    let second = first.again();
     let latest = Mutex::new(Latest::<J> {
-        told: first.again(),
+        told: first,
         of: PhantomData,
     });
-    let ((mut one, a), (two, b)) = join(
+    let (a, b) = join(
         rt,
-        || -> (Told<u64, Sum>, u64)
-            requires { (first.list ≡ J.list) × (log ≡ J.list) }
-            ensures { result.0.list ≡ J.list }
-        { write(rt, &log, &latest, first) },
-        || -> (Told<u64, Sum>, u64)
-            requires { (second.list ≡ J.list) × (log ≡ J.list) }
-            ensures { result.0.list ≡ J.list }
-        { write(rt, &log, &latest, second) },
+        || -> u64
+            requires { log ≡ J.list }
+        { write_under_lock(rt, &log, &latest) },
+        || -> u64
+            requires { log ≡ J.list }
+        { write_under_lock(rt, &log, &latest) },
     );
-    one.learn(&two);
-    assert!(rt; a <= EVENTS && b <= EVENTS && one.len() == a + b);
+    let told = latest.lock(rt).get();
+    assert!(rt; a == EVENTS && b == EVENTS && told.len() == a + b);
 }
 
 #[test]

@@ -1,9 +1,9 @@
 -- What an edit of shapes makes of their rows.
-use Rattle.std.proofs.Common.{◌≡◌, ◌≢◌, ℕ, ◌<◌, ◌⊎◌, inl, inr, ◌∙◌, Bool, true, false, ◌||◌, not, eqb, cond, List, [], ◌∷◌, ◌++◌, length, get_or, set, Option, Some, None, Result, Ok, Err, OnErr, refl, sym, ap, subst, arith}
+use Rattle.std.proofs.Common.{◌≡◌, ◌≢◌, ℕ, zero, suc, ◌+◌, ◌<◌, ◌⊎◌, inl, inr, ◌∙◌, Bool, true, false, ◌||◌, not, eqb, cond, List, [], ◌∷◌, ◌++◌, length, get_or, set, Option, Some, None, Result, Ok, Err, OnErr, refl, sym, ap, subst, arith}
 use Rattle.std.specs.Prelude.{filter}
 use Rattle.std.specs.List.{find, remove, position, position_or_len}
 use Rattle.std.specs.Option.{option_or}
-use Rattle.std.proofs.lemmas.List.{get_or_default, get_or-set_same, length-set}
+use Rattle.std.proofs.lemmas.List.{get_or_default, get_or-set_same, get_or-set_other}
 use Rattle.std.proofs.lemmas.Bool.Decides.{nat_tests}
 use Rattle.std.proofs.lemmas.List.Folds.{find-append, find-set, find_at, list_any-append}
 use Rattle.std.proofs.lemmas.Option.{slice_get_past}
@@ -14,7 +14,7 @@ use Rattle.match_index.specs.declared.cuts.Cut.{Cut}
 use Rattle.match_index.specs.declared.shapes.Shape.{Shape}
 use Rattle.match_index.specs.Bins.{at, Adds, Loses, AreSame, AreEmpty}
 use Rattle.match_index.specs.Cuts.{has_cuts, name_print}
-use Rattle.match_index.specs.Shapes.{shape_of, numbers_in, has_number, has_row, IsOnlyRow, AddsRow, KeepsOthers, AreSameRows, IsEmptyAt}
+use Rattle.match_index.specs.Shapes.{shape_of, numbers_in, has_number, has_row, IsOnlyRow, AddsRow, AreClear, IsGone, KeepsOthers, AreSameRows, IsEmptyAt}
 use Rattle.match_index.proofs.Among.{or_right, find_set, find_remove}
 use Rattle.match_index.proofs.Fingerprints.{cuts_fit}
 use Rattle.match_index.proofs.Ordered.{equal}
@@ -163,12 +163,6 @@ removed_rows (s ∷ shapes) place empty tests seq has =
     empty_has seq tests (shape_of (s ∷ shapes) tests) (shape_of (remove (s ∷ shapes) place) tests) y (empty.empty s)
     (find_remove (λ (shape : Shape). has_cuts shape.cuts.items tests) (s ∷ shapes) place y empty.in_range (get_or_default (s ∷ shapes) place y s empty.in_range)) has
 
-pub lost_rows : (shapes : List Shape) (place : ℕ) (x y : Shape) (tests : List FieldTest) (print seq : ℕ) → position (λ shape. has_cuts shape.cuts.items tests) shapes ≡ Some place → x ≡ get_or shapes place x → y.cuts.items ≡ x.cuts.items
-    → Loses x.bins y.bins print seq → KeepsOthers shapes (set shapes place y) seq
-lost_rows shapes place x y tests print seq at_place read cuts loses =
-    let first = position-Some (λ (shape : Shape). has_cuts shape.cuts.items tests) shapes place x at_place in
-    λ others other differ has. set_rows shapes place x y other first.0 (sym read) cuts (loses_alike x y print seq other loses differ) others ∙ has
-
 gone_here : (seq x : ℕ) (less : List ℕ) (b : Bool) → eqb x seq ≡ b → has_number seq less ≡ false → has_number seq (cond (not b) (x ∷ less) less) ≡ false
 gone_here seq x less true h rest = rest
 gone_here seq x less false h rest = ap (λ (b : Bool). b || has_number seq less) h ∙ rest
@@ -177,24 +171,50 @@ gone_from : (seq : ℕ) (numbers : List ℕ) → has_number seq (filter (λ x. n
 gone_from seq [] = refl
 gone_from seq (x ∷ numbers) = gone_here seq x (filter (λ y. not (eqb y seq)) numbers) (eqb x seq) refl (gone_from seq numbers)
 
-pub gone_row : (shapes : List Shape) (place : ℕ) (x y : Shape) (tests : List FieldTest) (print seq : ℕ) → position (λ shape. has_cuts shape.cuts.items tests) shapes ≡ Some place → x ≡ get_or shapes place x → y.cuts.items ≡ x.cuts.items
-    → print ≡ name_print tests → Loses x.bins y.bins print seq → has_row (set shapes place y) tests seq ≡ false
-gone_row shapes place x y tests print seq at_place read cuts is loses =
-    ap (λ (f : Option Shape). has_number seq (numbers_in f tests)) (first_set shapes place x y tests at_place (sym read) cuts)
-    ∙ ap (λ (ns : List ℕ). has_number seq ns) (loses (name_print tests))
-    ∙ ap (λ (b : Bool). has_number seq (cond b (filter (λ z. not (eqb z seq)) (at x.bins (name_print tests))) (at x.bins (name_print tests)))) (hit print (name_print tests) is)
-    ∙ gone_from seq (at x.bins (name_print tests))
+pub lost_alike : (shapes : List Shape) (place : ℕ) (x y : Shape) (print seq : ℕ) → place < length shapes → x ≡ get_or shapes place x → y.cuts.items ≡ x.cuts.items → Loses x.bins y.bins print seq → KeepsOthers shapes (set shapes place y) seq
+lost_alike shapes place x y print seq in_range read cuts loses = λ others other differ has. set_rows shapes place x y other in_range (sym read) cuts (loses_alike x y print seq other loses differ) others ∙ has
 
-pub no_row : (shapes : List Shape) (tests : List FieldTest) (seq : ℕ) → position (λ shape. has_cuts shape.cuts.items tests) shapes ≡ None → has_row shapes tests seq ≡ false
-no_row shapes tests seq none = ap (λ (f : Option Shape). has_number seq (numbers_in f tests)) (no_place (λ (shape : Shape). has_cuts shape.cuts.items tests) shapes none)
+pub lost_at : (x y : Shape) (print seq : ℕ) → Loses x.bins y.bins print seq → has_number seq (at y.bins print) ≡ false
+lost_at x y print seq loses =
+    ap (λ (ns : List ℕ). has_number seq ns) (loses print)
+    ∙ ap (λ (b : Bool). has_number seq (cond b (filter (λ z. not (eqb z seq)) (at x.bins print)) (at x.bins print))) (itself print)
+    ∙ gone_from seq (at x.bins print)
 
-pub emptied : (shapes : List Shape) (place : ℕ) (x y : Shape) (tests : List FieldTest) → position (λ shape. has_cuts shape.cuts.items tests) shapes ≡ Some place → AreEmpty y.bins → IsEmptyAt (set shapes place y) place
-emptied shapes place x y tests at_place empty =
-    let first = position-Some (λ (shape : Shape). has_cuts shape.cuts.items tests) shapes place x at_place in
-    record {
-      in_range = subst (λ (n : ℕ). place < n) (sym (length-set shapes place y)) first.0;
-      empty = λ d. subst (λ (s : Shape). AreEmpty s.bins) (sym (get_or-set_same shapes place y d first.0)) empty;
-    }
+-- one shape more is clear
+clear_at : (shapes : List Shape) (place i : ℕ) (y d : Shape) (print seq : ℕ) → place < length shapes → AreClear print seq place shapes → has_number seq (at y.bins print) ≡ false → i < place + 1 → (b : Bool) → eqb i place ≡ b
+    → has_number seq (at (get_or (set shapes place y) i d).bins print) ≡ false
+clear_at shapes place i y d print seq in_range clear here lt true same =
+    subst (λ (n : ℕ). has_number seq (at (get_or (set shapes place y) n d).bins print) ≡ false) (sym (equal i place same))
+    (subst (λ (s : Shape). has_number seq (at s.bins print) ≡ false) (sym (get_or-set_same shapes place y d in_range)) here)
+clear_at shapes place i y d print seq in_range clear here lt false other =
+    subst (λ (s : Shape). has_number seq (at s.bins print) ≡ false) (sym (get_or-set_other shapes place i y d (λ same. let e : eqb i place ≡ true = subst (λ (n : ℕ). eqb i n ≡ true) same (itself i) in cc)))
+    (clear i d (grind (arith, nat_tests)))
+
+pub clear_set : (shapes : List Shape) (place : ℕ) (y : Shape) (print seq : ℕ) → place < length shapes → AreClear print seq place shapes → has_number seq (at y.bins print) ≡ false → AreClear print seq (place + 1) (set shapes place y)
+clear_set shapes place y print seq in_range clear here = λ i d lt. clear_at shapes place i y d print seq in_range clear here lt (eqb i place) refl
+
+-- where all shapes are clear there is no such row
+clear_head : (seq : ℕ) (tests : List FieldTest) (s : Shape) (found : Option Shape) (b : Bool) → has_number seq (at s.bins (name_print tests)) ≡ false → has_number seq (numbers_in found tests) ≡ false → has_number seq (numbers_in (cond b (Some s) found) tests) ≡ false
+clear_head seq tests s found true here rest = here
+clear_head seq tests s found false here rest = rest
+
+pub clear_gone : (shapes : List Shape) (print seq : ℕ) → AreClear print seq (length shapes) shapes → IsGone shapes print seq
+clear_gone [] print seq clear = λ tests is. refl
+clear_gone (s ∷ shapes) print seq clear = λ tests is.
+    clear_head seq tests s (shape_of shapes tests) (has_cuts s.cuts.items tests) (ap (λ (n : ℕ). has_number seq (at s.bins n)) is ∙ clear 0 s (omega arith))
+    (clear_gone shapes print seq (λ place d lt. clear (suc place) d (omega (arith, lt))) tests is)
+
+clear_behind : (s : Shape) (shapes : List Shape) (print seq : ℕ) → has_number seq (at s.bins print) ≡ false → AreClear print seq (length shapes) shapes → AreClear print seq (length (s ∷ shapes)) (s ∷ shapes)
+clear_behind s shapes print seq here rest zero d less = here
+clear_behind s shapes print seq here rest (suc i) d less = rest i d (omega (arith, less))
+
+-- fewer shapes are clear too
+pub clear_removed : (shapes : List Shape) (place print seq : ℕ) → place < length shapes → AreClear print seq (length shapes) shapes → AreClear print seq (length (remove shapes place)) (remove shapes place)
+clear_removed [] place print seq lt clear = absurd (omega (arith, lt))
+clear_removed (s ∷ shapes) zero print seq lt clear = λ i d less. clear (suc i) d (omega (arith, less))
+clear_removed (s ∷ shapes) (suc place) print seq lt clear =
+    let rest = clear_removed shapes place print seq (omega (arith, lt)) (λ i d less. clear (suc i) d (omega (arith, less))) in
+    λ i. clear_behind s (remove shapes place) print seq (clear 0 s (omega arith)) rest i
 
 pub on_err : {T E : Type 0} (r : Result T E) (P : Type 0) → P → OnErr r P
 on_err (Ok x) P h = tt

@@ -4,11 +4,17 @@ use Rattle.std.specs.List.{AllByRecursion}
 use Rattle.p4_types.specs.declared.keys.FieldTest.{FieldTest}
 use Rattle.p4_types.specs.declared.table.Entry.{Entry}
 use Rattle.match_index.specs.declared.index.MatchIndex.{MatchIndex}
+use Rattle.match_index.specs.declared.index.Row.{Row}
+use Rattle.match_index.specs.Cuts.{name_print}
 use Rattle.match_index.specs.Shapes as shapes
 
 -- the index has a row of the tests and of that sequence number
 abbrev pub has_row : MatchIndex → List FieldTest → ℕ → Bool
 has_row index tests seq = shapes.has_row index.shapes.items tests seq
+
+-- what finds the row of the tests and of that sequence number
+abbrev pub row_of : List FieldTest → ℕ → Row
+row_of tests seq = record { print = name_print tests; seq = seq }
 
 -- it has a row of each entry
 abbrev pub Covers : MatchIndex → List Entry → Type 0

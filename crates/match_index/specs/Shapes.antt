@@ -1,5 +1,5 @@
 -- Rows by their shapes.
-use Rattle.std.specs.Prelude.{◌≡◌, ◌≢◌, ℕ, ◌==◌, ◌<◌, Bool, true, length, List, [], ◌∷◌, map, Option, Some, None, if◌then◌else◌}
+use Rattle.std.specs.Prelude.{◌≡◌, ◌≢◌, ℕ, ◌==◌, ◌<◌, Bool, true, false, length, List, [], ◌∷◌, map, get_or, Option, Some, None, if◌then◌else◌}
 use Rattle.std.specs.List.{find, list_any, HoldsAt}
 use Rattle.p4_types.specs.declared.keys.FieldTest.{FieldTest}
 use Rattle.match_index.specs.declared.shapes.Shape.{Shape}
@@ -49,3 +49,11 @@ pub record AddsRow (old new : List Shape) (tests : List FieldTest) (seq : ℕ) :
 -- the rows of the other numbers stay
 abbrev pub KeepsOthers : List Shape → List Shape → ℕ → Type 0
 KeepsOthers old new seq = (others : List FieldTest) (other : ℕ) → other ≢ seq → has_row old others other ≡ true → has_row new others other ≡ true
+
+-- the bins of the fingerprint of the first so many shapes have no such number
+abbrev pub AreClear : ℕ → ℕ → ℕ → List Shape → Type 0
+AreClear print seq count shapes = (place : ℕ) (d : Shape) → place < count → has_number seq (at (get_or shapes place d).bins print) ≡ false
+
+-- there is no row of the fingerprint and of that sequence number
+abbrev pub IsGone : List Shape → ℕ → ℕ → Type 0
+IsGone shapes print seq = (tests : List FieldTest) → name_print tests ≡ print → has_row shapes tests seq ≡ false

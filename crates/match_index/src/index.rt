@@ -5,13 +5,22 @@ ghost use Rattle.std.specs.Option.{option_map};
 ghost use Rattle.p4_types.specs.declared.keys.FieldTest.{FieldTest};
 ghost use Rattle.plane_spec.specs.Entries.{entry_named, best};
 ghost use Rattle.match_index.specs.Order.{AreInOrder};
-ghost use Rattle.match_index.specs.Index.{has_row, Covers, KeepsRows, IsEmpty};
+ghost use Rattle.match_index.specs.Index.{row_of, has_row, Covers, KeepsRows, IsEmpty};
 
+use crate::cuts::name_print;
 use crate::scan;
 use crate::shapes::{self, Shape};
 use list_types::NoMemory;
 use p4_types::table::{Entry, EntryName};
 use std::alloc::Global;
+
+/// What finds the row of an entry again, once the entry is gone.
+#[derive(Clone, Copy)]
+pub struct Row {
+    /// The fingerprint of what its tests compare with.
+    pub print: u64,
+    pub seq: u64,
+}
 
 /// A row for each entry of a table, of its tests and its sequence number, to find the entry by its name and by a key. A row
 /// that no entry has does no harm.
@@ -40,12 +49,22 @@ impl MatchIndex {
         shapes::insert(&mut self.shapes, alloc, name.tests.as_slice(), seq)
     }
 
-    /// Takes the row of an entry away. It takes no memory.
-    pub fn remove(&mut self, name: &EntryName, seq: u64)
-        ensures gone { has_row self.new name.now.tests seq ≡ false }
-        ensures others { (tests : spec.List FieldTest) (other : ℕ) → other ≢ seq → has_row self.old tests other ≡ true → has_row self.new tests other ≡ true }
+    /// The row that an entry of that name and sequence number has, in any index.
+    pub fn row(name: &EntryName, seq: u64) -> Row
+        ensures { result ≡ row_of name.now.tests seq }
     {
-        shapes::remove(&mut self.shapes, name.tests.as_slice(), seq);
+        Row {
+            print: name_print(name.tests.as_slice()),
+            seq,
+        }
+    }
+
+    /// Takes a row away. It takes no memory.
+    pub fn remove(&mut self, row: Row)
+        ensures gone { (tests : spec.List FieldTest) → row_of tests row.seq ≡ row → has_row self.new tests row.seq ≡ false }
+        ensures others { (tests : spec.List FieldTest) (other : ℕ) → other ≢ row.seq → has_row self.old tests other ≡ true → has_row self.new tests other ≡ true }
+    {
+        shapes::remove(&mut self.shapes, row.print, row.seq);
     }
 
     /// The entry of that name.

@@ -9,4 +9,4 @@ mod scan;
 mod seqs;
 mod shapes;
 
-pub use index::MatchIndex;
+pub use index::{MatchIndex, Row};

@@ -2,13 +2,14 @@
 ghost use Rattle.std.specs.Prelude.{◌≡◌, ◌==◌, ◌++◌, [], ◌∷◌, length, filter, not, OnOk, OnErr};
 
 use list_types::NoMemory;
+use smallvec::SmallVec;
 use std::alloc::Global;
 use std::marker::Model;
 
-/// Sequence numbers, which contracts see as the list of them.
+/// Sequence numbers, which contracts see as the list of them. One takes no memory.
 #[derive(Drop)]
 pub(crate) struct Seqs {
-    items: Vec<u64>,
+    items: SmallVec<u64, 1>,
 }
 
 impl Model for Seqs {
@@ -25,7 +26,7 @@ impl Seqs {
         ensures { result ≡ [] }
     {
         Seqs {
-            items: Vec::new(alloc),
+            items: SmallVec::new(alloc),
         }
     }
 

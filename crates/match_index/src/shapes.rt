@@ -1,9 +1,9 @@
 //! Rows by their shapes: by which parts of a key's values their tests compare.
-ghost use Rattle.std.specs.Prelude.{◌≡◌, false, IfOk, IfSome, OnOk, OnErr, vec_len};
+ghost use Rattle.std.specs.Prelude.{◌≡◌, IfOk, IfSome, OnOk, OnErr, length};
 ghost use Rattle.std.specs.List.{position};
 ghost use Rattle.std.specs.Option.{option_map};
 ghost use Rattle.match_index.specs.Cuts.{has_cuts};
-ghost use Rattle.match_index.specs.Shapes.{shape_of, numbers_of, has_row, IsOnlyRow, AddsRow, KeepsOthers, AreSameRows, IsEmptyAt};
+ghost use Rattle.match_index.specs.Shapes.{shape_of, numbers_of, IsOnlyRow, AddsRow, AreClear, IsGone, KeepsOthers, AreSameRows, IsEmptyAt};
 
 use crate::bins;
 use crate::cuts::{Cut, cuts_of, has_cuts, name_print};
@@ -79,34 +79,39 @@ pub(crate) fn insert(
     Ok(())
 }
 
-// Takes a row away, and says where its shape stands, if that is left with no row.
-fn lose(shapes: &mut Vec<Shape>, tests: &[FieldTest], seq: u64) -> Option<usize>
-    ensures gone { has_row shapes.new.items tests.now seq ≡ false }
+// Takes a number out of the bin of a fingerprint in each shape.
+fn lose_in_each(shapes: &mut Vec<Shape>, print: u64, seq: u64)
+    ensures gone { AreClear print seq (length shapes.new.items) shapes.new.items }
     ensures others { KeepsOthers shapes.old.items shapes.new.items seq }
-    ensures emptied { IfSome result (IsEmptyAt shapes.new.items) }
-    ensures len { vec_len shapes.new ≡ vec_len shapes.old }
 {
-    match place_of(shapes, tests) {
-        Some(place) => {
-            let shape = &mut shapes[place];
-            bins::remove(&mut shape.bins, name_print(tests), seq);
-            if bins::are_empty(&shape.bins) {
-                Some(place)
-            } else {
-                None
-            }
-        }
-        None => None,
+    for place in 0..shapes.len() {
+        let shape = &mut shapes[place];
+        bins::remove(&mut shape.bins, print, seq);
     }
 }
 
-/// Takes a row away, and the shape that it was the last of. It takes no memory.
-pub(crate) fn remove(shapes: &mut Vec<Shape>, tests: &[FieldTest], seq: u64)
-    ensures gone { has_row shapes.new.items tests.now seq ≡ false }
+// Where a shape stands that has no row.
+fn empty_place(shapes: &[Shape]) -> Option<usize>
+    ensures { IfSome result (IsEmptyAt shapes.now) }
+{
+    for place in 0..shapes.len() {
+        if bins::are_empty(&shapes[place].bins) {
+            return Some(place);
+        }
+    }
+    None
+}
+
+/// Takes the row of a fingerprint and of a number away, and a shape that has none, unless there is no other: a table that is
+/// filled again has use for it. It takes no memory.
+pub(crate) fn remove(shapes: &mut Vec<Shape>, print: u64, seq: u64)
+    ensures gone { IsGone shapes.new.items print seq }
     ensures others { KeepsOthers shapes.old.items shapes.new.items seq }
 {
-    if let Some(place) = lose(shapes, tests, seq) {
-        shapes.remove(place);
-        remove(shapes, tests, seq);
+    lose_in_each(shapes, print, seq);
+    if shapes.len() > 1 {
+        if let Some(place) = empty_place(shapes.as_slice()) {
+            shapes.remove(place);
+        }
     }
 }

@@ -13,7 +13,6 @@ use std::alloc::Global;
 use std::marker::Model;
 
 /// A valid P4Info, whose objects are looked up by their ids. A contract sees its objects.
-#[derive(Drop)]
 pub struct P4Info {
     info: Info,
     index: Index,
@@ -29,6 +28,16 @@ impl Model for P4Info {
     ghost view = { λ p. p.info };
 
     ghost invariant = { λ p. IsKept p.info p.index };
+}
+
+// Written out, so that those who let one go need not look into it.
+impl Drop for P4Info {
+    fn drop(self) {
+        let Self {
+            info: _info,
+            index: _index,
+        } = self;
+    }
 }
 
 impl P4Info {

@@ -123,7 +123,9 @@ impl Parts {
         self.profiles.keep();
         self.changed.settle();
         self.digests.settle();
-        self.former_rows = self.rows;
+        if self.former_rows != self.rows {
+            self.former_rows = self.rows;
+        }
     }
 
     /// Undoes all changes. It takes no memory.

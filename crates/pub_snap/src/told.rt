@@ -1,12 +1,8 @@
 //! What was told of the published list.
-ghost use Rattle.std.specs.Prelude.{◌≡◌, ◌⊎◌, ◌-◌, ◌^◌, ◌<◌, [], ◌∷◌, length, None, MatchBool};
-ghost use Rattle.event_log.specs.Legal.{after};
-ghost use Rattle.event_log.specs.Lists.{with_event};
+ghost use Rattle.std.specs.Prelude.{◌≡◌, ◌⊎◌, ◌-◌, ◌^◌, ◌<◌, [], ◌∷◌, length, MatchBool};
 ghost use Rattle.plane_spec.specs.Legal.{May, Legal};
 ghost use Rattle.plane_spec.specs.Planes.{opened, applied};
 ghost use Rattle.pub_snap.specs.Beginnings.{Begins, IsLonger, with_events};
-ghost use Rattle.pub_snap.specs.Listing.{MayList};
-ghost use Rattle.pub_snap.specs.Listing as listing;
 
 use crate::listed::{Led, Listed};
 use event_log::EventLog;
@@ -38,26 +34,6 @@ impl Model for Told {
     ghost invariant = { λ t. IsListing t.known.events };
 }
 
-// Waits for good.
-fn never_returns<R: Wait>(rt: &R)
-    ensures { ⊥ }
-{
-    for _ in rt.forever() {}
-    unreachable!()
-}
-
-// Lets the list go on. It waits for good where the list went on without this.
-fn grow<R: Wait>(rt: &R, known: &mut event_log::Told<Listed, Led>, log: &Log, listed: &Listed)
-    requires log { log.now ≡ known.old.list }
-    requires room { length known.old.events < 2 ^ 64 - 1 }
-    requires may { MayList (after listing.listed None known.old.events) listed.now }
-    ensures { known.new ≡ with_event known.old listed.now }
-{
-    if !known.add(log, listed) {
-        never_returns(rt);
-    }
-}
-
 /// A list of the start alone.
 pub(crate) fn begun<R: Wait>(rt: &R, start: &Start) -> (Log, Told)
     ensures log { result.0 ≡ result.1.list }
@@ -65,7 +41,7 @@ pub(crate) fn begun<R: Wait>(rt: &R, start: &Start) -> (Log, Told)
     ensures events { result.1.events ≡ [] }
 {
     let (log, mut known) = event_log::open::<Listed, Led>();
-    grow(rt, &mut known, &log, &Listed::Open(*start));
+    known.add(rt, &log, &Listed::Open(*start));
     (log, Told { known })
 }
 
@@ -116,7 +92,7 @@ impl Told {
         ensures event { result ≡ event }
     {
         let listed = Listed::Made(event);
-        grow(rt, &mut self.known, log, &listed);
+        self.known.add(rt, log, &listed);
         match listed {
             Listed::Made(event) => event,
             Listed::Open(_) => unreachable!(),

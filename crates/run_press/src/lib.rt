@@ -2,6 +2,7 @@
 #![tactic(auto)]
 
 mod published;
+mod ruling;
 mod steps;
 
 pub use published::Published;

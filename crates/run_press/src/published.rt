@@ -1,29 +1,25 @@
 //! The events of a run, in their order.
-ghost use Rattle.std.specs.Prelude.{◌≡◌, ◌≤◌, [], ◌++◌, length, IfOk, IfSome, drop};
+ghost use Rattle.std.specs.Prelude.{◌≡◌, ◌≤◌, ◌<◌, ◌-◌, ◌^◌, [], ◌∷◌, ◌++◌, length, IfOk, IfSome, IsTrue, drop};
 ghost use Rattle.std.specs.List.{filter_map};
+ghost use Rattle.event_log.specs.Ruling.{length_word};
 ghost use Rattle.plane_spec.specs.Planes.{opened};
 ghost use Rattle.switch_spec.specs.History.{step_of};
 
+use crate::ruling::{Adds, Law, Nothing};
 use crate::steps::{kinds_of, steps_in};
 use ctl_core::Press;
-use event_log::{EventLog, Machine, Told, open};
 use list_types::{List, NoMemory};
+use logbook::{Offer, Seen, Word};
 use p4_types::events::{Event, Start};
 use p4_types::journal::Step;
 use plane_state::Config;
 use std::alloc::Global;
 use std::marker::Model;
 
-/// A state in which any event may follow: which may follow another is for the caller of a press to show.
-pub struct Anything;
+// The length of the list of events, and with which events it begins.
+type Length = Word<Event<Config>, u64, Law>;
 
-impl Machine<Event<Config>> for Anything {
-    ghost start = { record {} };
-
-    ghost applied = { λ s e. s };
-
-    ghost may = { λ s e. Unit {0} };
-}
+type Begun = Seen<Event<Config>, u64, Law>;
 
 /// The events that were handed on since the start. They exist in the proofs alone: what is kept of each is the step that it
 /// is, so that no event keeps its configuration.
@@ -31,13 +27,14 @@ impl Machine<Event<Config>> for Anything {
 pub struct Published {
     alloc: Global,
     start: Start,
-    log: EventLog<Event<Config>, Anything>,
-    told: Told<Event<Config>, Anything>,
+    length: Length,
+    begun: Begun,
     kinds: Vec<Option<Step>>,
 }
 
 impl Model for Published {
     ghost use Rattle.std.specs.Prelude.{◌≡◌, map};
+    ghost use Rattle.event_log.specs.Ruling.{length_word};
     ghost use Rattle.run_press.specs.Given.{Given};
     ghost use Rattle.switch_spec.specs.History.{step_of};
     ghost use Rattle.bm_expr.specs.TreeCode.{number_code, truth_code};
@@ -47,25 +44,42 @@ impl Model for Published {
 
     ghost Value = { Given };
 
-    ghost view = { λ p. record { start = p.start; events = p.told.events } };
+    ghost view = { λ p. record { start = p.start; events = p.begun.log } };
 
-    ghost invariant = { λ p. (p.log ≡ p.told.list) × (p.kinds.items ≡ map step_of p.told.events) };
+    ghost invariant = { λ p. (p.length ≡ length_word p.begun.book) × (p.kinds.items ≡ map step_of p.begun.log) };
 }
 
-// What was told of the list with these events more, if the list takes them.
-fn with_all(
-    told: &Told<Event<Config>, Anything>,
-    log: &EventLog<Event<Config>, Anything>,
-    events: &[Event<Config>],
-) -> Option<Told<Event<Config>, Anything>>
-    requires { log.now ≡ told.now.list }
-    ensures { IfSome result (λ more. more ≡ record { list = told.now.list; events = told.now.events ++ events.now }) }
+// Adds an event to the list, which has so many, and says whether it did.
+fn add(word: &Length, begun: &mut Begun, count: u64, event: &Event<Config>) -> bool
+    requires word { word.now ≡ length_word begun.old.book }
+    requires count { count ≡ length begun.old.log }
+    requires room { count < 2 ^ 64 - 1 }
+    ensures book { begun.new.book ≡ begun.old.book }
+    ensures added { IsTrue result → begun.new.log ≡ begun.old.log ++ event.now ∷ [] }
 {
-    let mut more = told.again();
+    let mut offer: Offer<Event<Config>, u64, Law, Nothing> = begun.plain::<
+        Nothing,
+        Event<Config>,
+        Adds,
+    >(event);
+    let mut pen = begun.no_pen();
+    word.compare_exchange::<Adds, Nothing>(count, count + 1, begun, &mut offer, &mut pen) == count
+}
+
+// With what the list begins once it has these events more, if it takes them.
+fn with_all(word: &Length, begun: &Begun, count: u64, events: &[Event<Config>]) -> Option<Begun>
+    requires word { word.now ≡ length_word begun.now.book }
+    requires count { count ≡ length begun.now.log }
+    ensures book { IfSome result (λ more. more.book ≡ begun.now.book) }
+    ensures events { IfSome result (λ more. more.log ≡ begun.now.log ++ events.now) }
+{
+    let mut more = begun.again();
+    let mut count = count;
     for event in events {
-        if more.len() == u64::MAX || !more.add(log, event) {
+        if count == u64::MAX || !add(word, &mut more, count, event) {
             return None;
         }
+        count += 1;
     }
     Some(more)
 }
@@ -82,12 +96,13 @@ impl Press for Published {
         if self.kinds.reserve(kinds.len()).is_err() {
             return Err(events);
         }
-        let Some(told) = with_all(&self.told, &self.log, events.as_slice()) else {
+        let count = self.kinds.len() as u64;
+        let Some(begun) = with_all(&self.length, &self.begun, count, events.as_slice()) else {
             return Err(events);
         };
         match self.kinds.append(&mut kinds) {
             Ok(()) => {
-                self.told = told;
+                self.begun = begun;
                 Ok(())
             }
             Err(_) => Err(events),
@@ -101,12 +116,12 @@ impl Published {
         ensures start { result.start ≡ start }
         ensures nothing { result.events ≡ [] }
     {
-        let (log, told) = open();
+        let (begun, mut first, _second) = Seen::open(logbook::Start::alone(), 0, 0);
         Published {
             alloc,
             start,
-            log,
-            told,
+            length: Word::tracked(0, &mut first),
+            begun,
             kinds: Vec::new(alloc),
         }
     }

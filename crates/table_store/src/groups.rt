@@ -10,17 +10,10 @@ ghost use Rattle.table_store.specs.Undo.{was, WasGroup, IsTouched, IsStep};
 
 use crate::rows;
 use list_types::NoMemory;
-use match_index::MatchIndex;
+use match_index::{MatchIndex, Row};
 use p4_types::table::{Entry, EntryChange, EntryName};
 use std::alloc::Global;
 use undo_vec::UndoVec;
-
-/// The row of an entry that may be gone.
-#[derive(Drop)]
-pub(crate) struct Noted {
-    pub(crate) name: EntryName,
-    pub(crate) seq: u64,
-}
 
 /// The entries of a table, in the order in which they were inserted, and an index of them.
 #[derive(Drop)]
@@ -29,7 +22,7 @@ pub(crate) struct Group {
     pub(crate) entries: UndoVec<Entry>,
     pub(crate) index: MatchIndex,
     /// The rows of entries that the next settling or undoing may leave without their entry.
-    pub(crate) noted: Vec<Noted>,
+    pub(crate) noted: Vec<Row>,
 }
 
 /// Where the table's group stands, or where it would stand.

@@ -1,15 +1,17 @@
 //! The entries of one table.
 ghost use Rattle.std.specs.Prelude.{◌≡◌, ◌==◌, ◌++◌, [], ◌∷◌, None, false, IfOk, OnOk, OnErr};
+ghost use Rattle.std.specs.Prelude as spec;
 ghost use Rattle.std.specs.List.{position};
+ghost use Rattle.p4_types.specs.declared.keys.FieldTest.{FieldTest};
 ghost use Rattle.plane_spec.specs.Entries.{same_name, with_change, modified, deleted};
-ghost use Rattle.match_index.specs.Index.{has_row, Covers};
+ghost use Rattle.match_index.specs.Index.{row_of, has_row, Covers};
 ghost use Rattle.match_index.specs.Order.{AreInOrder};
 ghost use Rattle.table_store.specs.Groups.{IsGroup, IsFresh};
 ghost use Rattle.table_store.specs.Undo.{WasGroup, IsRowStep};
 
-use crate::groups::{Group, Noted};
+use crate::groups::Group;
 use list_types::NoMemory;
-use match_index::MatchIndex;
+use match_index::{MatchIndex, Row};
 use p4_types::table::{Entry, EntryChange, EntryName};
 use std::alloc::Global;
 
@@ -44,9 +46,8 @@ pub(crate) fn add(group: &mut Group, alloc: Global, entry: Entry) -> Result<(), 
     ensures group { IsGroup group.new }
     ensures step { IsRowStep group.old group.new }
 {
-    let name = entry.name.copy();
     let seq = entry.seq;
-    group.noted.push(Noted { name, seq })?;
+    group.noted.push(MatchIndex::row(&entry.name, seq))?;
     group.index.insert(alloc, &entry.name, seq)?;
     group.entries.push(entry)?;
     Ok(())
@@ -93,34 +94,33 @@ pub(crate) fn remove(group: &mut Group, name: &EntryName) -> Result<(), NoMemory
     let place = place_of(&group.index, group.entries.as_slice(), name);
     if let Some(place) = place {
         let rows = group.entries.as_slice();
-        let seq = rows[place].seq;
-        let name = name.copy();
-        group.noted.push(Noted { name, seq })?;
+        let row = MatchIndex::row(name, rows[place].seq);
+        group.noted.push(row)?;
         group.entries.remove(place)?;
     }
     Ok(())
 }
 
 // Takes the row out of the index if its entry is gone.
-fn forget(index: &mut MatchIndex, entries: &[Entry], row: &Noted)
+fn forget(index: &mut MatchIndex, entries: &[Entry], row: Row)
     requires order { AreInOrder entries.now }
     requires covered { Covers index.old entries.now }
     ensures covered { Covers index.new entries.now }
-    ensures gone { position (λ entry. entry.seq == row.now.seq) entries.now ≡ None → has_row index.new row.now.name.tests row.now.seq ≡ false }
+    ensures gone { (tests : spec.List FieldTest) → row_of tests row.seq ≡ row → position (λ entry. entry.seq == row.seq) entries.now ≡ None → has_row index.new tests row.seq ≡ false }
 {
     match place_of_number(entries, row.seq) {
         Some(_) => {}
-        None => index.remove(&row.name, row.seq),
+        None => index.remove(row),
     }
 }
 
-fn forget_each(index: &mut MatchIndex, entries: &[Entry], rows: &[Noted])
+fn forget_each(index: &mut MatchIndex, entries: &[Entry], rows: &[Row])
     requires order { AreInOrder entries.now }
     requires covered { Covers index.old entries.now }
     ensures { Covers index.new entries.now }
 {
     for row in rows {
-        forget(index, entries, row);
+        forget(index, entries, *row);
     }
 }
 

@@ -12,17 +12,13 @@
 mod row;
 mod text;
 
-use list_types::Refusal;
 use std::io;
 
 fn main(rt: HostRuntime) -> io::Result<()> {
     for line in rt.lines(rt.alloc()) {
         let line = line?;
-        match row::answer(rt.alloc(), line.as_str()) {
-            Ok(text) => println!(rt; "{text}")?,
-            Err(Refusal::NoMemory) => println!(rt; "no memory")?,
-            Err(Refusal::For(_)) => println!(rt; "bad row")?,
-        }
+        let answer = row::answer(rt.alloc(), line.as_str());
+        println!(rt; "{}", row::shown(&answer))?;
     }
     Ok(())
 }

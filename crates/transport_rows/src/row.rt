@@ -1,5 +1,5 @@
 //! A line of what happens on a connection.
-use crate::text::{push_events, push_number};
+use crate::text::{push_events, push_hex, push_number};
 use h2_conn::Conn;
 use hpack_tables::Header;
 use list_types::{ByteList, List, Refusal};
@@ -18,6 +18,13 @@ enum Cut {
     Everywhere,
     // In one piece more, which ends behind so many bytes of the line.
     Behind(usize),
+}
+
+// What a connection gave and sent, and how many bytes came.
+#[derive(Drop)]
+struct Outcome {
+    text: String,
+    fed: usize,
 }
 
 // A connection, and what it has given so far.
@@ -88,15 +95,22 @@ fn feed_in_two(
     feed_piece(alloc, run, rest)
 }
 
-// Bytes come; a code is told once, or again where that is asked for.
-fn feed(alloc: Global, run: &mut Run, word: &str, again: bool) -> Result<(), Refusal<BadRow>> {
-    let bytes = bytes_of(alloc, word)?;
-    let code = match run.cut {
-        Cut::Nowhere => feed_piece(alloc, run, bytes.as_slice())?,
-        Cut::Everywhere => feed_each(alloc, run, bytes.as_slice())?,
-        Cut::Behind(place) => feed_in_two(alloc, run, bytes.as_slice(), place)?,
-    };
-    run.fed = run.fed.saturating_add(bytes.len());
+// Bytes come, cut as the run says.
+fn feed_cut(alloc: Global, run: &mut Run, bytes: &[u8]) -> Result<Option<u32>, Refusal<BadRow>> {
+    match run.cut {
+        Cut::Nowhere => feed_piece(alloc, run, bytes),
+        Cut::Everywhere => feed_each(alloc, run, bytes),
+        Cut::Behind(place) => feed_in_two(alloc, run, bytes, place),
+    }
+}
+
+// A code is told once, or again where that is asked for.
+fn tell_code(
+    alloc: Global,
+    run: &mut Run,
+    code: Option<u32>,
+    again: bool,
+) -> Result<(), Refusal<BadRow>> {
     let Some(number) = code else {
         return Ok(());
     };
@@ -105,6 +119,13 @@ fn feed(alloc: Global, run: &mut Run, word: &str, again: bool) -> Result<(), Ref
     }
     run.ended = true;
     Ok(())
+}
+
+fn feed(alloc: Global, run: &mut Run, word: &str, again: bool) -> Result<(), Refusal<BadRow>> {
+    let bytes = bytes_of(alloc, word)?;
+    let code = feed_cut(alloc, run, bytes.as_slice())?;
+    run.fed = run.fed.saturating_add(bytes.len());
+    tell_code(alloc, run, code, again)
 }
 
 fn header_of(alloc: Global, word: &str) -> Result<Header, Refusal<BadRow>> {
@@ -125,61 +146,79 @@ fn headers_of(alloc: Global, word: &str) -> Result<List<Header>, Refusal<BadRow>
     Ok(headers)
 }
 
+fn send_headers_to(
+    alloc: Global,
+    conn: &mut Conn,
+    stream: &str,
+    list: &str,
+    end_stream: bool,
+) -> Result<(), Refusal<BadRow>> {
+    let stream = number_of(stream)?;
+    let headers = headers_of(alloc, list)?;
+    Ok(conn.send_headers(alloc, stream, headers.as_slice(), end_stream)?)
+}
+
 fn send_headers(alloc: Global, conn: &mut Conn, word: &str) -> Result<(), Refusal<BadRow>> {
     let Some((stream, rest)) = word.split_once(':') else {
         return Err(Refusal::For(BadRow));
     };
-    let Some((end, list)) = rest.split_once(':') else {
-        return Err(Refusal::For(BadRow));
-    };
-    let headers = headers_of(alloc, list)?;
-    let stream = number_of(stream)?;
-    conn.send_headers(alloc, stream, headers.as_slice(), end == "end")?;
-    Ok(())
+    match rest.split_once(':') {
+        Some((end, list)) => send_headers_to(alloc, conn, stream, list, end == "end"),
+        None => Err(Refusal::For(BadRow)),
+    }
 }
 
 fn send_data(alloc: Global, conn: &mut Conn, word: &str) -> Result<(), Refusal<BadRow>> {
     let Some((stream, bytes)) = word.split_once(':') else {
         return Err(Refusal::For(BadRow));
     };
-    let bytes = bytes_of(alloc, bytes)?;
     let stream = number_of(stream)?;
-    conn.send_data(alloc, stream, bytes)?;
-    Ok(())
+    let bytes = bytes_of(alloc, bytes)?;
+    Ok(conn.send_data(alloc, stream, bytes)?)
 }
 
 fn tell_sent(alloc: Global, run: &mut Run) -> Result<(), Refusal<BadRow>> {
     let output = run.conn.take_output(alloc);
-    run.text.push_str(" sent=")?;
-    let sent = hex::encode(alloc, output.as_slice())?;
-    run.text.push_str(sent.as_str())?;
-    Ok(())
+    Ok(push_hex(alloc, &mut run.text, " sent=", output.as_slice())?)
 }
 
 fn tell_count(alloc: Global, run: &mut Run) -> Result<(), Refusal<BadRow>> {
     let output = run.conn.take_output(alloc);
-    push_number(alloc, &mut run.text, " took=", output.len() as u64)?;
-    Ok(())
+    Ok(push_number(alloc, &mut run.text, " took=", output.len() as u64)?)
+}
+
+// A step with something behind its verb.
+fn step_with(alloc: Global, run: &mut Run, verb: &str, rest: &str) -> Result<(), Refusal<BadRow>> {
+    match verb {
+        "feed" => feed(alloc, run, rest, false),
+        "again" => feed(alloc, run, rest, true),
+        "headers" => send_headers(alloc, &mut run.conn, rest),
+        "data" => send_data(alloc, &mut run.conn, rest),
+        _ => Err(Refusal::For(BadRow)),
+    }
 }
 
 // One step of a line.
 fn step(alloc: Global, run: &mut Run, word: &str) -> Result<(), Refusal<BadRow>> {
-    match word.split_once('=') {
-        Some(("feed", rest)) => feed(alloc, run, rest, false),
-        Some(("again", rest)) => feed(alloc, run, rest, true),
-        Some(("headers", rest)) => send_headers(alloc, &mut run.conn, rest),
-        Some(("data", rest)) => send_data(alloc, &mut run.conn, rest),
-        Some(_) => Err(Refusal::For(BadRow)),
-        None => match word {
-            "sent" => tell_sent(alloc, run),
-            "took" => tell_count(alloc, run),
-            _ => Err(Refusal::For(BadRow)),
-        },
+    if let Some((verb, rest)) = word.split_once('=') {
+        return step_with(alloc, run, verb, rest);
+    }
+    match word {
+        "sent" => tell_sent(alloc, run),
+        "took" => tell_count(alloc, run),
+        _ => Err(Refusal::For(BadRow)),
     }
 }
 
+fn take_steps(alloc: Global, run: &mut Run, steps: &str) -> Result<(), Refusal<BadRow>> {
+    for word in steps.split(' ') {
+        step(alloc, run, word)?;
+    }
+    tell_sent(alloc, run)
+}
+
 // What a connection gives and sends, step by step.
-fn run_of(alloc: Global, steps: &str, cut: Cut) -> Result<Run, Refusal<BadRow>> {
+fn outcome_of(alloc: Global, steps: &str, cut: Cut) -> Result<Outcome, Refusal<BadRow>> {
     let mut run = Run {
         conn: Conn::new(alloc)?,
         text: String::new(alloc),
@@ -187,21 +226,21 @@ fn run_of(alloc: Global, steps: &str, cut: Cut) -> Result<Run, Refusal<BadRow>> 
         fed: 0,
         ended: false,
     };
-    for word in steps.split(' ') {
-        step(alloc, &mut run, word)?;
-    }
-    tell_sent(alloc, &mut run)?;
-    Ok(run)
+    take_steps(alloc, &mut run, steps)?;
+    Ok(Outcome {
+        text: run.text,
+        fed: run.fed,
+    })
 }
 
 // It gives and sends the same where its bytes come so.
-fn is_same(alloc: Global, steps: &str, whole: &Run, cut: Cut) -> Result<bool, Refusal<BadRow>> {
-    let other = run_of(alloc, steps, cut)?;
+fn is_same(alloc: Global, steps: &str, whole: &Outcome, cut: Cut) -> Result<bool, Refusal<BadRow>> {
+    let other = outcome_of(alloc, steps, cut)?;
     Ok(other.text.as_str() == whole.text.as_str())
 }
 
 // At how many cuts it is the same.
-fn count_of_cuts(alloc: Global, steps: &str, whole: &Run) -> Result<u64, Refusal<BadRow>> {
+fn count_of_cuts(alloc: Global, steps: &str, whole: &Outcome) -> Result<u64, Refusal<BadRow>> {
     let mut same: u64 = 0;
     for place in 0..whole.fed {
         if is_same(alloc, steps, whole, Cut::Behind(place))? {
@@ -211,23 +250,54 @@ fn count_of_cuts(alloc: Global, steps: &str, whole: &Run) -> Result<u64, Refusal
     Ok(same)
 }
 
+// Whether that is the same byte by byte is told where it is not.
+fn tell_bytes(
+    alloc: Global,
+    text: &mut String,
+    steps: &str,
+    whole: &Outcome,
+) -> Result<(), Refusal<BadRow>> {
+    if is_same(alloc, steps, whole, Cut::Everywhere)? {
+        return Ok(());
+    }
+    Ok(text.push_str(" another answer byte by byte")?)
+}
+
+// At how many cuts it is the same is told.
+fn tell_cuts(
+    alloc: Global,
+    text: &mut String,
+    steps: &str,
+    whole: &Outcome,
+) -> Result<(), Refusal<BadRow>> {
+    let same = count_of_cuts(alloc, steps, whole)?;
+    Ok(push_number(alloc, text, " cuts=", same)?)
+}
+
+// What a connection gives and sends, where its bytes come as they stand, one by one, and with one cut.
+fn tell(
+    alloc: Global,
+    text: &mut String,
+    steps: &str,
+    at_every_cut: bool,
+) -> Result<(), Refusal<BadRow>> {
+    let whole = outcome_of(alloc, steps, Cut::Nowhere)?;
+    text.push_str(whole.text.as_str())?;
+    tell_bytes(alloc, text, steps, &whole)?;
+    if at_every_cut {
+        tell_cuts(alloc, text, steps, &whole)?;
+    }
+    Ok(())
+}
+
 fn told(
     alloc: Global,
     name: &str,
     steps: &str,
     at_every_cut: bool,
 ) -> Result<String, Refusal<BadRow>> {
-    let whole = run_of(alloc, steps, Cut::Nowhere)?;
-    let mut text = String::new(alloc);
-    text.push_str(name)?;
-    text.push_str(whole.text.as_str())?;
-    if !is_same(alloc, steps, &whole, Cut::Everywhere)? {
-        text.push_str(" another answer byte by byte")?;
-    }
-    if at_every_cut {
-        let same = count_of_cuts(alloc, steps, &whole)?;
-        push_number(alloc, &mut text, " cuts=", same)?;
-    }
+    let mut text = String::from_str(alloc, name)?;
+    tell(alloc, &mut text, steps, at_every_cut)?;
     Ok(text)
 }
 
@@ -236,8 +306,17 @@ pub fn answer(alloc: Global, line: &str) -> Result<String, Refusal<BadRow>> {
     let Some((name, rest)) = line.split_once(' ') else {
         return Err(Refusal::For(BadRow));
     };
-    match rest.split_once(' ') {
-        Some(("every-cut", steps)) => told(alloc, name, steps, true),
-        _ => told(alloc, name, rest, false),
+    match rest.strip_prefix("every-cut ") {
+        Some(steps) => told(alloc, name, steps, true),
+        None => told(alloc, name, rest, false),
+    }
+}
+
+/// The line of an answer.
+pub fn shown(answer: &Result<String, Refusal<BadRow>>) -> &str {
+    match answer {
+        Ok(text) => text.as_str(),
+        Err(Refusal::NoMemory) => "no memory",
+        Err(Refusal::For(_)) => "bad row",
     }
 }

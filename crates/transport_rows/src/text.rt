@@ -3,16 +3,21 @@ use h2_conn::H2Event;
 use hpack_tables::Header;
 use std::alloc::{AllocError, Global};
 
-fn push_hex(alloc: Global, text: &mut String, bytes: &[u8]) -> Result<(), AllocError> {
+/// Adds bytes in hex behind a mark.
+pub fn push_hex(
+    alloc: Global,
+    text: &mut String,
+    mark: &str,
+    bytes: &[u8],
+) -> Result<(), AllocError> {
     let told = hex::encode(alloc, bytes)?;
+    text.push_str(mark)?;
     text.push_str(told.as_str())
 }
 
 fn push_header(alloc: Global, text: &mut String, header: &Header) -> Result<(), AllocError> {
-    text.push_str(" ")?;
-    push_hex(alloc, text, header.name.as_slice())?;
-    text.push_str("=")?;
-    push_hex(alloc, text, header.value.as_slice())
+    push_hex(alloc, text, " ", header.name.as_slice())?;
+    push_hex(alloc, text, "=", header.value.as_slice())
 }
 
 fn push_headers(alloc: Global, text: &mut String, headers: &[Header]) -> Result<(), AllocError> {
@@ -25,23 +30,15 @@ fn push_headers(alloc: Global, text: &mut String, headers: &[Header]) -> Result<
 fn push_event(alloc: Global, text: &mut String, event: &H2Event) -> Result<(), AllocError> {
     match event {
         H2Event::Headers { stream, headers } => {
-            let told = format!(in alloc; " headers:{stream}")?;
-            text.push_str(told.as_str())?;
+            push_number(alloc, text, " headers:", u64::from(*stream))?;
             push_headers(alloc, text, headers.as_slice())
         }
         H2Event::Data { stream, bytes } => {
-            let told = format!(in alloc; " data:{stream}:")?;
-            text.push_str(told.as_str())?;
-            push_hex(alloc, text, bytes.as_slice())
+            push_number(alloc, text, " data:", u64::from(*stream))?;
+            push_hex(alloc, text, ":", bytes.as_slice())
         }
-        H2Event::End { stream } => {
-            let told = format!(in alloc; " end:{stream}")?;
-            text.push_str(told.as_str())
-        }
-        H2Event::Reset { stream } => {
-            let told = format!(in alloc; " reset:{stream}")?;
-            text.push_str(told.as_str())
-        }
+        H2Event::End { stream } => push_number(alloc, text, " end:", u64::from(*stream)),
+        H2Event::Reset { stream } => push_number(alloc, text, " reset:", u64::from(*stream)),
     }
 }
 

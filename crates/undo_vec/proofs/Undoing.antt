@@ -65,6 +65,14 @@ length_inserted items zero item le = omega arith
 length_inserted [] (suc place) item le = absurd (omega (arith, le))
 length_inserted (first ∷ items) (suc place) item le = let h = length_inserted items place item (omega (arith, le)) in omega (arith, h)
 
+pub pushed_back : {T : Type 0} (items : List T) (item : T) → remove (items ++ item ∷ []) (length items) ≡ items
+pushed_back [] item = refl
+pushed_back (first ∷ items) item = ap (λ xs. first ∷ xs) (pushed_back items item)
+
+pub length_pushed : {T : Type 0} (items : List T) (item : T) → length items < length (items ++ item ∷ [])
+length_pushed [] item = omega arith
+length_pushed (first ∷ items) item = let h = length_pushed items item in omega (arith, h)
+
 -- the same where the log was computed
 pub still_undone : {T : Type 0} (log now : List (Edit T)) (edit : Edit T) (old items : List T) (capacity more : ℕ) → CanUndo log old capacity → capacity ≤ more
     → back edit items ≡ old → Fits edit items more → now ≡ log ++ edit ∷ [] → CanUndo now items more

@@ -91,7 +91,10 @@ impl<T: Drop> UndoVec<T> {
         ensures before { self.new.before ≡ self.old.before }
     {
         let place = self.items.len();
-        self.insert(place, item)
+        reserve(&mut self.log)?;
+        self.items.push(item)?;
+        push(&mut self.log, Edit::Inserted(place));
+        Ok(())
     }
 
     /// Adds an item before the one at a place, or at the end.
@@ -143,12 +146,15 @@ impl<T: Drop> UndoVec<T> {
         self.items.remove(place);
     }
 
-    /// Keeps all edits: they can no longer be undone. It takes no memory.
+    /// Keeps all edits: they can no longer be undone. It takes no memory, and writes nothing where there is none, so that a thread
+    /// which reads what stands beside it need not fetch that anew.
     pub fn settle(&mut self)
         ensures items { self.new.items ≡ self.old.items }
         ensures before { self.new.before ≡ self.old.items }
     {
-        self.log.clear();
+        if !self.log.is_empty() {
+            self.log.clear();
+        }
     }
 
     /// Undoes all edits. It takes no memory.

@@ -1,5 +1,5 @@
 -- Numbers that are packed, read one after another.
-use Rattle.std.proofs.Common.{◌≡◌, ℕ, zero, suc, ◌<◌, ◌≤◌, Bool, true, false, cond, eqb, List, [], ◌∷◌, ◌++◌, length, map, Option, Some, None, Result, Ok, Err, refl, sym, ap, ◌∙◌, append_assoc, arith}
+use Rattle.std.proofs.Common.{◌≡◌, ℕ, zero, suc, ◌<◌, ◌≤◌, Bool, true, false, cond, eqb, is_some, List, [], ◌∷◌, ◌++◌, length, map, Option, Some, None, Result, Ok, Err, refl, sym, ap, ◌∙◌, append_assoc, arith}
 use Rattle.std.specs.List.{filter}
 use Rattle.std.specs.Result.{result_ok}
 use Rattle.std.proofs.lemmas.List.{append-nil}
@@ -7,6 +7,7 @@ use Rattle.wire_fields.specs.declared.wire.WireFault.{WireFault}
 use Rattle.wire_fields.specs.Fields.{WireField}
 use Rattle.wire_fields.specs.Reading.{varint_at}
 use Rattle.list_types.specs.Options.{◌>>=◌}
+use Rattle.wire_messages.specs.Answers.{packed_first}
 use Rattle.wire_messages.specs.Message.{each, given, flatten, packed_in, numbers_of}
 use Rattle.wire_messages.specs.Numbers.{as_uint32}
 use Rattle.wire_messages.specs.Scans.{packed_from, numbers_from}
@@ -42,6 +43,10 @@ packed_range left found whole value rest packed some e none =
     let one = packed_one packed.steps left found whole some packed.enough packed.goes_on in
     sym one.2 ∙ ap (λ r. after_one r one.0 found) e
     ∙ ap (λ (o : Option ℕ). (o >>= λ first. packed_in as_uint32 one.0 rest >>= λ others. Some (first ∷ others)) >>= λ values. Some (found ++ values)) none
+
+-- the first of what is left is read
+pub first_here : (left : List ℕ) (value x : ℕ) (rest : List ℕ) → varint_at left ≡ Ok (value, rest) → as_uint32 value ≡ Some x → is_some (packed_first left) ≡ true
+first_here left value x rest e is = ap (λ r. is_some (result_ok r >>= λ x. as_uint32 x.0)) e ∙ ap is_some is
 
 regroup : (found : List ℕ) (x : ℕ) (others : Option (List ℕ)) → (others >>= λ values. Some ((found ++ x ∷ []) ++ values)) ≡ ((others >>= λ others. Some (x ∷ others)) >>= λ values. Some (found ++ values))
 regroup found x None = refl

@@ -23,7 +23,7 @@ pub record Scan {S : Type 0} (rest : S → List WireField → Option S) : Type 0
   pub at_end : (before : S) → rest before [] ≡ Some before
   pub more : (before : S) (field : WireField) (fields : List WireField) → rest before (field ∷ fields) ≡ (rest before (field ∷ []) >>= λ after. rest after fields)
 
-next_of : (items : List Field) (i : ℕ) (d : Field) → i < length items → map field_of (drop i items) ≡ field_of (slice_index_or items i d) ∷ map field_of (drop (i + 1) items)
+pub next_of : (items : List Field) (i : ℕ) (d : Field) → i < length items → map field_of (drop i items) ≡ field_of (slice_index_or items i d) ∷ map field_of (drop (i + 1) items)
 next_of items i d h = rw (add-one) (ap (λ x. map field_of x) (drop-cons items i d h))
 
 pub scan_next : {S : Type 0} (rest : S → List WireField → Option S) → Scan rest → (items : List Field) (i : ℕ) (d : Field) (before after : S) (whole : Option S)

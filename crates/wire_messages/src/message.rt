@@ -1,9 +1,11 @@
 //! A message by the numbers of its fields.
-ghost use Rattle.std.specs.Prelude.{◌≡◌, List, map, IfOk, IsErrOf};
+ghost use Rattle.std.specs.Prelude.{◌≡◌, ◌≢◌, List, [], map, true, Err, None, IfOk, IsErrOf};
 ghost use Rattle.std.specs.Option.{option_map};
 ghost use Rattle.wire_fields.specs.Fields.{WireField, Spells};
-ghost use Rattle.wire_messages.specs.Answers.{Reads, ReadsInMemory};
-ghost use Rattle.wire_messages.specs.Message.{uint32_at, uint64_at, int32_at, int64_at, bool_at, bytes_at, text_at, message_at, messages_at, texts_at, uint32s_at, is_given, choice_at, only_known};
+ghost use Rattle.wire_fields.specs.Reading.{fault_at};
+ghost use Rattle.wire_messages.specs.Answers.{Reads, ReadsInMemory, first_is_read, first_number_is_read};
+ghost use Rattle.wire_messages.specs.Message.{uint32_at, uint64_at, int32_at, int64_at, bool_at, bytes_at, text_at, message_at, messages_at, texts_at, uint32s_at, bytes_of, given, is_given, choice_at, only_known};
+ghost use Rattle.wire_messages.specs.Scans.{text_of};
 
 use crate::errors::Unreadable;
 use crate::{steps, values};
@@ -33,6 +35,7 @@ impl<'a> Message<'a> {
     pub fn read(alloc: Global, bytes: &'a [u8]) -> Result<Message<'a>, Refusal<Unreadable>>
         ensures ok { IfOk result (λ message. Spells message bytes.now) }
         ensures unreadable { IsErrOf result (Refusal.For (record {})) → (fields : List WireField) → Spells fields bytes.now → ⊥ }
+        ensures memory { result ≡ Err Refusal.NoMemory → (bytes.now ≢ []) × (fault_at bytes.now ≡ None) }
     {
         let mut left = Fields::new(bytes);
         let mut fields = Vec::new(alloc);
@@ -135,7 +138,8 @@ impl<'a> Message<'a> {
 
     /// The bytes of each message, or each `bytes`, in a repeated field.
     pub fn messages(&self, alloc: Global, number: u32) -> Result<Vec<&'a [u8]>, Refusal<Unreadable>>
-        ensures { ReadsInMemory (λ list. map (λ x. x.now) list.items) result (messages_at number self.now) }
+        ensures exact { ReadsInMemory (λ list. map (λ x. x.now) list.items) result (messages_at number self.now) }
+        ensures memory { result ≡ Err Refusal.NoMemory → first_is_read bytes_of (given number self.now) ≡ true }
     {
         let mut found = Vec::new(alloc);
         for field in &self.fields {
@@ -146,7 +150,8 @@ impl<'a> Message<'a> {
 
     /// Each `string` in a repeated field, in UTF-8.
     pub fn texts(&self, alloc: Global, number: u32) -> Result<Vec<&'a str>, Refusal<Unreadable>>
-        ensures { ReadsInMemory (λ list. map (λ x. x.now) list.items) result (texts_at number self.now) }
+        ensures exact { ReadsInMemory (λ list. map (λ x. x.now) list.items) result (texts_at number self.now) }
+        ensures memory { result ≡ Err Refusal.NoMemory → first_is_read text_of (given number self.now) ≡ true }
     {
         let mut found = Vec::new(alloc);
         for field in &self.fields {
@@ -157,7 +162,8 @@ impl<'a> Message<'a> {
 
     /// Each `uint32` in a repeated field, singly or packed.
     pub fn uint32s(&self, alloc: Global, number: u32) -> Result<Vec<u32>, Refusal<Unreadable>>
-        ensures { ReadsInMemory (λ list. list.items) result (uint32s_at number self.now) }
+        ensures exact { ReadsInMemory (λ list. list.items) result (uint32s_at number self.now) }
+        ensures memory { result ≡ Err Refusal.NoMemory → first_number_is_read (given number self.now) ≡ true }
     {
         let mut found = Vec::new(alloc);
         for field in &self.fields {

@@ -1,9 +1,9 @@
 //! One field more of a scan, from what the fields before gave.
-ghost use Rattle.std.specs.Prelude.{◌≡◌, [], ◌∷◌, map};
+ghost use Rattle.std.specs.Prelude.{◌≡◌, [], ◌∷◌, map, true, is_some, Err};
 ghost use Rattle.std.specs.Option.{option_map};
 ghost use Rattle.wire_fields.specs.Field.{field_of};
-ghost use Rattle.wire_messages.specs.Answers.{Reads, ReadsInMemory};
-ghost use Rattle.wire_messages.specs.Message.{bytes_of, number_at};
+ghost use Rattle.wire_messages.specs.Answers.{Reads, ReadsInMemory, first_is_read, packed_first, first_number_is_read};
+ghost use Rattle.wire_messages.specs.Message.{bytes_of, given, number_at};
 ghost use Rattle.wire_messages.specs.Numbers.{as_uint32, as_uint64, as_int32, as_int64, as_bool};
 ghost use Rattle.wire_messages.specs.Scans.{text_of, last_from, all_from, one_from, packed_from, numbers_from};
 
@@ -110,7 +110,8 @@ pub(crate) fn push_bytes<'a>(
     field: Field<'a>,
     number: u32,
 ) -> Result<(), Refusal<Unreadable>>
-    ensures { ReadsInMemory (λ _. map (λ x. x.now) found.new.items) result (all_from bytes_of number (map (λ x. x.now) found.old.items) (field_of field.entry ∷ [])) }
+    ensures exact { ReadsInMemory (λ _. map (λ x. x.now) found.new.items) result (all_from bytes_of number (map (λ x. x.now) found.old.items) (field_of field.entry ∷ [])) }
+    ensures memory { result ≡ Err Refusal.NoMemory → first_is_read bytes_of (given number (field_of field.entry ∷ [])) ≡ true }
 {
     if values::number_of(field) == number {
         found.push(values::bytes(field)?)?;
@@ -123,7 +124,8 @@ pub(crate) fn push_text<'a>(
     field: Field<'a>,
     number: u32,
 ) -> Result<(), Refusal<Unreadable>>
-    ensures { ReadsInMemory (λ _. map (λ x. x.now) found.new.items) result (all_from text_of number (map (λ x. x.now) found.old.items) (field_of field.entry ∷ [])) }
+    ensures exact { ReadsInMemory (λ _. map (λ x. x.now) found.new.items) result (all_from text_of number (map (λ x. x.now) found.old.items) (field_of field.entry ∷ [])) }
+    ensures memory { result ≡ Err Refusal.NoMemory → first_is_read text_of (given number (field_of field.entry ∷ [])) ≡ true }
 {
     if values::number_of(field) == number {
         found.push(values::text(field)?)?;
@@ -132,7 +134,8 @@ pub(crate) fn push_text<'a>(
 }
 
 pub(crate) fn push_packed(found: &mut Vec<u32>, bytes: &[u8]) -> Result<(), Refusal<Unreadable>>
-    ensures { ReadsInMemory (λ _. found.new.items) result (packed_from found.old.items bytes.now) }
+    ensures exact { ReadsInMemory (λ _. found.new.items) result (packed_from found.old.items bytes.now) }
+    ensures memory { result ≡ Err Refusal.NoMemory → is_some (packed_first bytes.now) ≡ true }
 {
     let mut left = bytes;
     while !left.is_empty() {
@@ -150,7 +153,8 @@ pub(crate) fn push_numbers(
     field: Field<'_>,
     number: u32,
 ) -> Result<(), Refusal<Unreadable>>
-    ensures { ReadsInMemory (λ _. found.new.items) result (numbers_from number found.old.items (field_of field.entry ∷ [])) }
+    ensures exact { ReadsInMemory (λ _. found.new.items) result (numbers_from number found.old.items (field_of field.entry ∷ [])) }
+    ensures memory { result ≡ Err Refusal.NoMemory → first_number_is_read (given number (field_of field.entry ∷ [])) ≡ true }
 {
     if values::number_of(field) != number {
         return Ok(());

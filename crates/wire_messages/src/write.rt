@@ -1,6 +1,6 @@
 //! Writing the fields of a message, one function for the type of a field. Each adds to the writer the
 //! fields that its value is written as. Where memory is out it adds none, but for `texts`.
-ghost use Rattle.std.specs.Prelude.{◌≡◌, ◌≤◌, ◌++◌, OnOk, OnErr, IfOk};
+ghost use Rattle.std.specs.Prelude.{◌≡◌, ◌≤◌, ◌++◌, [], ℕ, take, false, pos, Ok, None, OnOk, OnErr, IfOk};
 ghost use Rattle.std.specs.List.{flat_map};
 ghost use Rattle.std.specs.Option.{option_map};
 ghost use Rattle.wire_fields.specs.Spelling.{varint};
@@ -15,6 +15,7 @@ fn unless_zero(writer: &mut Writer, number: u32, value: u64) -> Result<(), NoMem
     requires in_range { number ≤ 536870911 }
     ensures ok { OnOk result (writer.new ≡ writer.old ++ row_bytes number (Uint64 value)) }
     ensures err { OnErr result (writer.new ≡ writer.old) }
+    ensures nothing { value ≡ 0 → result ≡ Ok tt }
 {
     if value == 0 {
         return Ok(());
@@ -28,6 +29,7 @@ pub fn uint32(writer: &mut Writer, number: u32, value: u32) -> Result<(), NoMemo
     requires in_range { number ≤ 536870911 }
     ensures ok { OnOk result (writer.new ≡ writer.old ++ row_bytes number (Uint32 value)) }
     ensures err { OnErr result (writer.new ≡ writer.old) }
+    ensures nothing { value ≡ 0 → result ≡ Ok tt }
     ensures fits { InRange (Uint32 value) }
 {
     unless_zero(writer, number, u64::from(value))
@@ -39,6 +41,7 @@ pub fn uint64(writer: &mut Writer, number: u32, value: u64) -> Result<(), NoMemo
     requires in_range { number ≤ 536870911 }
     ensures ok { OnOk result (writer.new ≡ writer.old ++ row_bytes number (Uint64 value)) }
     ensures err { OnErr result (writer.new ≡ writer.old) }
+    ensures nothing { value ≡ 0 → result ≡ Ok tt }
     ensures fits { InRange (Uint64 value) }
 {
     unless_zero(writer, number, value)
@@ -50,6 +53,7 @@ pub fn int32(writer: &mut Writer, number: u32, value: i32) -> Result<(), NoMemor
     requires in_range { number ≤ 536870911 }
     ensures ok { OnOk result (writer.new ≡ writer.old ++ row_bytes number (Int32 value)) }
     ensures err { OnErr result (writer.new ≡ writer.old) }
+    ensures nothing { value ≡ pos 0 → result ≡ Ok tt }
     ensures fits { InRange (Int32 value) }
 {
     int64(writer, number, i64::from(value))
@@ -71,6 +75,7 @@ pub fn int64(writer: &mut Writer, number: u32, value: i64) -> Result<(), NoMemor
     requires in_range { number ≤ 536870911 }
     ensures ok { OnOk result (writer.new ≡ writer.old ++ row_bytes number (Int64 value)) }
     ensures err { OnErr result (writer.new ≡ writer.old) }
+    ensures nothing { value ≡ pos 0 → result ≡ Ok tt }
     ensures fits { InRange (Int64 value) }
 {
     unless_zero(writer, number, two_complement(value))
@@ -82,6 +87,7 @@ pub fn boolean(writer: &mut Writer, number: u32, value: bool) -> Result<(), NoMe
     requires in_range { number ≤ 536870911 }
     ensures ok { OnOk result (writer.new ≡ writer.old ++ row_bytes number (Flag value)) }
     ensures err { OnErr result (writer.new ≡ writer.old) }
+    ensures nothing { value ≡ false → result ≡ Ok tt }
     ensures fits { InRange (Flag value) }
 {
     if !value {
@@ -96,6 +102,7 @@ pub fn bytes(writer: &mut Writer, number: u32, value: &[u8]) -> Result<(), NoMem
     requires in_range { number ≤ 536870911 }
     ensures ok { OnOk result (writer.new ≡ writer.old ++ row_bytes number (ByteString value.now)) }
     ensures err { OnErr result (writer.new ≡ writer.old) }
+    ensures nothing { value.now ≡ [] → result ≡ Ok tt }
     ensures fits { InRange (ByteString value.now) }
 {
     if value.is_empty() {
@@ -110,6 +117,7 @@ pub fn text(writer: &mut Writer, number: u32, value: &str) -> Result<(), NoMemor
     requires in_range { number ≤ 536870911 }
     ensures ok { OnOk result (writer.new ≡ writer.old ++ row_bytes number (Text value.now)) }
     ensures err { OnErr result (writer.new ≡ writer.old) }
+    ensures nothing { value.now ≡ [] → result ≡ Ok tt }
     ensures fits { InRange (Text value.now) }
 {
     bytes(writer, number, value.as_bytes())
@@ -121,6 +129,7 @@ pub fn carried(writer: &mut Writer, number: u32, value: Option<&[u8]>) -> Result
     requires in_range { number ≤ 536870911 }
     ensures ok { OnOk result (writer.new ≡ writer.old ++ row_bytes number (Carried (option_map (λ x. x.now) value.entry))) }
     ensures err { OnErr result (writer.new ≡ writer.old) }
+    ensures nothing { value.entry ≡ None → result ≡ Ok tt }
 {
     match value {
         Some(message) => bytes(writer, number, message),
@@ -194,6 +203,7 @@ pub fn texts(writer: &mut Writer, number: u32, values: &[list_types::Text]) -> R
     requires not_zero { 1 ≤ number }
     requires in_range { number ≤ 536870911 }
     ensures ok { OnOk result (writer.new ≡ writer.old ++ row_bytes number (Texts values.now)) }
+    ensures err { OnErr result ((count : ℕ) × (writer.new ≡ writer.old ++ row_bytes number (Texts (take count values.now)))) }
     ensures fits { OnOk result (InRange (Texts values.now)) }
 {
     for text in values {

@@ -11,5 +11,5 @@ split_at-requires c = omega (arith, c.loop.invariant.long)
 pub loop-preserved : goal.loop-preserved
 loop-preserved c = rw (c.in_ok-push.ensures.ok, c.setting.ensures, c.split_at.ensures.front, c.split_at.ensures.back) (goes_on _ _ _ _ _ (omega arith) c.loop.invariant)
 
-pub returns : goal.returns
-returns c = rw (is_done _ _ _ _ (omega arith) c.loop.invariant) refl
+pub returns-clause-exact : goal.returns-clause-exact
+returns-clause-exact c = rw (is_done _ _ _ _ (omega arith) c.loop.invariant) refl

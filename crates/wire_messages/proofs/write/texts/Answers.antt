@@ -1,5 +1,6 @@
 use Rattle.std.proofs.Common.{arith, ◌∙◌}
 use Rattle.wire_messages.proofs.WrittenBytes.{no_texts, next_text, all_texts}
+use Rattle.std.proofs.lemmas.Result.{err_from_is_err_and}
 use Rattle.wire_messages.proofs.write.texts.Goals as goal
 
 pub loop-text-init : goal.loop-text-init
@@ -13,3 +14,8 @@ returns-clause-ok c = (all_texts _ _ _ _ _ (omega arith) c.loop-text.invariant).
 
 pub returns-clause-fits : goal.returns-clause-fits
 returns-clause-fits c = (all_texts _ _ _ _ _ (omega arith) c.loop-text.invariant).fits
+
+pub returns-in_err-bytes-clause-err : goal.returns-in_err-bytes-clause-err
+returns-in_err-bytes-clause-err c =
+    let p = err_from_is_err_and c.from_residual.result c.from_residual.ensures.1 in
+    rw p.1 (c.loop-text.text-index, c.in_err-bytes.ensures.err ∙ c.loop-text.invariant.so_far)

@@ -1,21 +1,30 @@
-use Rattle.std.proofs.Common.{arith}
+use Rattle.std.proofs.Common.{◌++◌, map, arith}
 use Rattle.wire_messages.specs.Message.{bytes_of, messages_at}
 use Rattle.std.proofs.lemmas.Result.{err_from_is_err_and}
+use Rattle.wire_messages.proofs.Asking.{asks_next, asks_here, first_asks}
 use Rattle.wire_messages.proofs.Scanning.{all_scan, scan_next, scan_refused, scan_end, refuses, all_start}
 use Rattle.wire_messages.proofs.message.Message.messages.Goals as goal
 
 pub loop-field-init : goal.loop-field-init
 unfolding messages_at
-loop-field-init c = rw (← c.self.view_is, c.deref-field-items.ensures.value, c.new-found.ensures.items) (all_start _ c.args.number _)
+loop-field-init c = rw (← c.self.view_is, c.deref-field-items.ensures.value, c.new-found.ensures.items) (all_start _ c.args.number _, λ asked. asked)
 
 pub loop-field-preserved : goal.loop-field-preserved
-loop-field-preserved c = scan_next _ (all_scan bytes_of c.args.number) c.deref-field-items.result.now c.loop-field.field-index _ _ _ _ c.loop-field.invariant (omega arith) c.in_ok-push_bytes.ensures
+loop-field-preserved c = (
+  scan_next _ (all_scan bytes_of c.args.number) c.deref-field-items.result.now c.loop-field.field-index _ _ _ _ c.loop-field.invariant.0 (omega arith) c.in_ok-push_bytes.ensures.exact,
+  asks_next bytes_of _ (first_asks bytes_of) (λ values. map (λ x. x.now) c.loop-field.found.items ++ values) c.args.number c.deref-field-items.result.now c.loop-field.field-index _ _ _ c.loop-field.invariant.1 (omega arith) c.in_ok-push_bytes.ensures.exact,
+)
 
-pub returns-in_err-push_bytes : goal.returns-in_err-push_bytes
-returns-in_err-push_bytes c =
+pub returns-in_err-push_bytes-clause-exact : goal.returns-in_err-push_bytes-clause-exact
+returns-in_err-push_bytes-clause-exact c =
     let p = err_from_is_err_and c.from_residual.result c.from_residual.ensures.1 in
-    rw (p.1, p.2) (refuses c.in_err-push_bytes.field-0.0 _ _ c.in_err-push_bytes.ensures (scan_refused _ (all_scan bytes_of c.args.number) c.deref-field-items.result.now c.loop-field.field-index _ _ _ c.loop-field.invariant (omega arith)))
+    rw (p.1, p.2) (refuses c.in_err-push_bytes.field-0.0 _ _ c.in_err-push_bytes.ensures.exact (scan_refused _ (all_scan bytes_of c.args.number) c.deref-field-items.result.now c.loop-field.field-index _ _ _ c.loop-field.invariant.0 (omega arith)))
 
-pub returns : goal.returns
+pub returns-in_err-push_bytes-clause-memory : goal.returns-in_err-push_bytes-clause-memory
+returns-in_err-push_bytes-clause-memory c =
+    let p = err_from_is_err_and c.from_residual.result c.from_residual.ensures.1 in
+    λ e. asks_here bytes_of _ (first_asks bytes_of) c.args.number c.deref-field-items.result.now c.loop-field.field-index _ _ c.loop-field.invariant.1 (omega arith) (c.in_err-push_bytes.ensures.memory cc)
+
+pub returns-clause-exact : goal.returns-clause-exact
 unfolding messages_at
-returns c = scan_end _ (all_scan bytes_of c.args.number) c.deref-field-items.result.now c.loop-field.field-index _ _ c.loop-field.invariant (omega arith)
+returns-clause-exact c = scan_end _ (all_scan bytes_of c.args.number) c.deref-field-items.result.now c.loop-field.field-index _ _ c.loop-field.invariant.0 (omega arith)
