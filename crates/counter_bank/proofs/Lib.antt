@@ -1,4 +1,5 @@
 pub mod Places
+pub mod Spread
 pub mod Sums
 pub mod Keeping
 pub mod Loading

@@ -1,13 +1,21 @@
--- Figures of slots, in a list with two numbers for each slot: its packets, then its bytes. Past the end of a list each number is 0.
-use Rattle.std.specs.Prelude.{ℕ, zero, suc, ◌+◌, ◌*◌, ◌%◌, ◌^◌, ◌≤◌, max, List, [], ◌∷◌, slice_index}
+-- Figures of slots, in a list with two numbers for each place: the packets of its slot, then its bytes. Past the end of a list each number is 0.
+use Rattle.std.specs.Prelude.{ℕ, zero, suc, ◌+◌, ◌*◌, ◌/◌, ◌%◌, ◌^◌, ◌≤◌, max, List, [], ◌∷◌, slice_index}
+
+-- The place of a slot. Of 4,096 slots that stand together those of neighbouring numbers stand 64 places apart, so that threads which count at them do not write to one line of memory.
+unfoldable pub place : ℕ → ℕ
+place slot = slot / 4096 * 4096 + slot % 64 * 64 + slot / 64 % 64
+
+-- how many places so many slots take
+unfoldable pub places : ℕ → ℕ
+places slots = (slots + 4095) / 4096 * 4096
 
 -- the packets of a slot
 abbrev pub packets_of : List ℕ → ℕ → ℕ
-packets_of xs slot = slice_index xs (2 * slot)
+packets_of xs slot = slice_index xs (2 * place slot)
 
 -- the bytes of a slot
 abbrev pub bytes_of : List ℕ → ℕ → ℕ
-bytes_of xs slot = slice_index xs (2 * slot + 1)
+bytes_of xs slot = slice_index xs (2 * place slot + 1)
 
 -- the figures of a slot, modulo 2^64: its packets and its bytes
 abbrev pub figures_of : List ℕ → ℕ → ℕ × ℕ
@@ -45,8 +53,8 @@ greater (x ∷ xs) (y ∷ ys) = max x y ∷ greater xs ys
 
 -- the figures with one packet of so many bytes more at a slot
 abbrev pub count_packet : List ℕ → ℕ → ℕ → List ℕ
-count_packet xs slot bytes = add_at (add_at xs (2 * slot) 1) (2 * slot + 1) bytes
+count_packet xs slot bytes = add_at (add_at xs (2 * place slot) 1) (2 * place slot + 1) bytes
 
 -- the figures with at least these at a slot
 abbrev pub note : List ℕ → ℕ → ℕ → ℕ → List ℕ
-note xs slot packets bytes = raise_at (raise_at xs (2 * slot) packets) (2 * slot + 1) bytes
+note xs slot packets bytes = raise_at (raise_at xs (2 * place slot) packets) (2 * place slot + 1) bytes

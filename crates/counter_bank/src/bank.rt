@@ -1,6 +1,6 @@
 //! The bank: its words, and the steps on them.
-ghost use Rattle.std.specs.Prelude.{◌≡◌, ◌*◌, ◌<◌, ◌≤◌, length, IfOk};
-ghost use Rattle.counter_bank.specs.Figures.{figures_of, AtMost};
+ghost use Rattle.std.specs.Prelude.{◌≡◌, ◌<◌, ◌≤◌, ◌^◌, IfOk};
+ghost use Rattle.counter_bank.specs.Figures.{place, places, figures_of, AtMost};
 ghost use Rattle.counter_bank.specs.Account.{first_seat, all_parts, most_slots, after_hit, less_a_part, with_a_part, joined, NotesAt, AreTotals, NoneAbove};
 
 use crate::seat::Seat;
@@ -11,7 +11,13 @@ use list_types::NoMemory;
 use std::alloc::Global;
 use std::marker::Model;
 
-/// Counters that threads share by reference: 16 bytes for each slot.
+/// How many slots stand together, as many rows of as many places.
+const BLOCK: u32 = 4_096;
+
+const ROWS: usize = 64;
+
+/// Counters that threads share by reference: 16 bytes for each slot, and as much for those that are wanting in the last 4,096. Slots of
+/// neighbouring numbers, as entries have that were inserted one after another, stand 1,024 bytes apart.
 #[derive(Drop)]
 pub struct Bank {
     table: Table<(), Tally, u64, Counting, Global>,
@@ -19,14 +25,36 @@ pub struct Bank {
 }
 
 impl Model for Bank {
-    ghost use Rattle.std.specs.Prelude.{◌≡◌, ◌*◌, ◌<◌};
-    ghost use Rattle.counter_bank.specs.Account.{Opened};
+    ghost use Rattle.std.specs.Prelude.{◌≡◌, ◌*◌, ◌<◌, ◌≤◌};
+    ghost use Rattle.counter_bank.specs.Account.{Opened, most_slots};
 
     ghost Value = { Opened };
 
     ghost view = { λ b. record { id = b.table.shared.table_id; slots = b.slots } };
 
-    ghost invariant = { λ b. (b.table.shared.key ≡ 2 * b.slots) × (b.table.shared.table_id.words ≡ 2 * b.slots) × (b.table.shared.table_id.slots ≡ 0) × (0 < b.slots) };
+    ghost use Rattle.counter_bank.specs.Figures.{places};
+
+    ghost invariant = { λ b. (b.table.shared.key ≡ 2 * places b.slots) × (b.table.shared.table_id.words ≡ 2 * places b.slots) × (b.table.shared.table_id.slots ≡ 0) × (0 < b.slots) × (b.slots ≤ most_slots) };
+}
+
+/// Where a slot stands.
+#[tactic(auto, unfolding(crate::specs::Figures::place))]
+pub(crate) fn place(slot: u32) -> usize
+    ensures place { result ≡ place slot }
+    ensures small { result < 2 ^ 32 }
+{
+    let block = BLOCK as usize;
+    let slot = slot as usize;
+    slot / block * block + slot % ROWS * ROWS + slot / ROWS % ROWS
+}
+
+// How many places so many slots take.
+#[tactic(auto, unfolding(crate::specs::Figures::places))]
+fn places(slots: u32) -> u32
+    requires { slots ≤ most_slots }
+    ensures { result ≡ places slots }
+{
+    (slots + (BLOCK - 1)) / BLOCK * BLOCK
 }
 
 /// Opens a bank of so many slots, 1 to 1,048,576, all at 0, with its first seat, which has all 2^32 parts.
@@ -35,7 +63,7 @@ pub fn open(alloc: Global, slots: u32) -> Result<(Bank, Seat), NoMemory>
     requires slots { (0 < slots) × (slots ≤ most_slots) }
     ensures { IfOk result (λ r. (r.0.slots ≡ slots) × (r.1 ≡ first_seat r.0.id)) }
 {
-    let words = 2 * u64::from(slots);
+    let words = 2 * u64::from(places(slots));
     let zeros = vec![in alloc; 0u64; words as usize]?;
     let (table, inner) = Table::of_words(alloc, zeros.as_slice(), &words)?;
     Ok((Bank { table, slots }, Seat { inner }))
@@ -70,7 +98,7 @@ impl Bank {
         ensures { seat.new ≡ after_hit seat.old slot bytes }
     {
         let shared = &self.table.shared;
-        let at = 2 * slot as usize;
+        let at = 2 * place(slot);
         shared.fetch_add::<Adds>(&mut seat.inner, at, 1);
         shared.fetch_add::<Adds>(&mut seat.inner, at + 1, u64::from(bytes));
     }
@@ -85,7 +113,7 @@ impl Bank {
         ensures same { NotesAt seat.old seat.new slot }
     {
         let shared = &self.table.shared;
-        let at = 2 * slot as usize;
+        let at = 2 * place(slot);
         let packets = shared.load::<Notes>(&mut seat.inner, at);
         let bytes = shared.load::<Notes>(&mut seat.inner, at + 1);
         (packets, bytes)
@@ -96,13 +124,13 @@ impl Bank {
 pub fn close_with(bank: Bank, seat: Seat) -> Totals
     requires bank { seat.bank ≡ bank.id }
     requires parts { seat.parts ≡ all_parts }
-    ensures slots { length result ≡ 2 * bank.slots }
     ensures totals { AreTotals result bank.slots seat.added }
     ensures noted { NoneAbove seat.noted seat.added }
 {
-    let Bank { table, slots: _ } = bank;
+    let Bank { table, slots } = bank;
     let Seat { inner } = seat;
     Totals {
         closed: table.close_with(inner),
+        places: places(slots),
     }
 }

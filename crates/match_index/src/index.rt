@@ -39,14 +39,15 @@ impl MatchIndex {
         }
     }
 
-    /// Adds the row of an entry.
-    pub fn insert(&mut self, alloc: Global, name: &EntryName, seq: u64) -> Result<(), NoMemory>
-        ensures row { OnOk result (has_row self.new name.now.tests seq ≡ true) }
-        ensures others { (tests : spec.List FieldTest) (other : ℕ) → other ≢ seq → has_row self.new tests other ≡ has_row self.old tests other }
+    /// Adds the row of an entry of that name.
+    pub fn insert(&mut self, alloc: Global, name: &EntryName, row: Row) -> Result<(), NoMemory>
+        requires { row ≡ row_of name.now.tests row.seq }
+        ensures row { OnOk result (has_row self.new name.now.tests row.seq ≡ true) }
+        ensures others { (tests : spec.List FieldTest) (other : ℕ) → other ≢ row.seq → has_row self.new tests other ≡ has_row self.old tests other }
         ensures kept { KeepsRows self.old self.new }
         ensures err { OnErr result ((tests : spec.List FieldTest) (other : ℕ) → has_row self.new tests other ≡ has_row self.old tests other) }
     {
-        shapes::insert(&mut self.shapes, alloc, name.tests.as_slice(), seq)
+        shapes::insert(&mut self.shapes, alloc, name.tests.as_slice(), row)
     }
 
     /// The row that an entry of that name and sequence number has, in any index.

@@ -3,10 +3,12 @@ ghost use Rattle.std.specs.Prelude.{◌≡◌, IfOk, IfSome, OnOk, OnErr, length
 ghost use Rattle.std.specs.List.{position};
 ghost use Rattle.std.specs.Option.{option_map};
 ghost use Rattle.match_index.specs.Cuts.{has_cuts};
+ghost use Rattle.match_index.specs.Index.{row_of};
 ghost use Rattle.match_index.specs.Shapes.{shape_of, numbers_of, IsOnlyRow, AddsRow, AreClear, IsGone, KeepsOthers, AreSameRows, IsEmptyAt};
 
 use crate::bins;
 use crate::cuts::{Cut, cuts_of, has_cuts, name_print};
+use crate::index::Row;
 use crate::seqs::Seqs;
 use list_types::NoMemory;
 use p4_types::keys::FieldTest;
@@ -47,32 +49,34 @@ fn place_of(shapes: &[Shape], tests: &[FieldTest]) -> Option<usize>
 }
 
 // A shape of one row, which was opened for it.
-fn opened(alloc: Global, tests: &[FieldTest], seq: u64) -> Result<Shape, NoMemory>
-    ensures { IfOk result (IsOnlyRow tests.now seq) }
+fn opened(alloc: Global, tests: &[FieldTest], row: Row) -> Result<Shape, NoMemory>
+    requires { row ≡ row_of tests.now row.seq }
+    ensures { IfOk result (IsOnlyRow tests.now row.seq) }
 {
     let cuts = cuts_of(alloc, tests)?;
     let mut bins = HashMap::new(alloc);
-    bins::put(&mut bins, alloc, name_print(tests), seq)?;
+    bins::put(&mut bins, alloc, row.print, row.seq)?;
     Ok(Shape { cuts, bins })
 }
 
-/// Adds a row.
+/// Adds the row of tests.
 pub(crate) fn insert(
     shapes: &mut Vec<Shape>,
     alloc: Global,
     tests: &[FieldTest],
-    seq: u64,
+    row: Row,
 ) -> Result<(), NoMemory>
-    ensures ok { OnOk result (AddsRow shapes.old.items shapes.new.items tests.now seq) }
+    requires { row ≡ row_of tests.now row.seq }
+    ensures ok { OnOk result (AddsRow shapes.old.items shapes.new.items tests.now row.seq) }
     ensures err { OnErr result (AreSameRows shapes.old.items shapes.new.items) }
 {
     match place_of(shapes, tests) {
         Some(place) => {
             let shape = &mut shapes[place];
-            bins::put(&mut shape.bins, alloc, name_print(tests), seq)?;
+            bins::put(&mut shape.bins, alloc, row.print, row.seq)?;
         }
         None => {
-            let shape = opened(alloc, tests, seq)?;
+            let shape = opened(alloc, tests, row)?;
             shapes.push(shape)?;
         }
     }

@@ -1,5 +1,5 @@
 //! What the counters of a run have counted, once all its lanes are at their ends.
-ghost use Rattle.std.specs.Prelude.{◌≡◌, ◌*◌, ◌++◌, length, map, fold, OnOk};
+ghost use Rattle.std.specs.Prelude.{◌≡◌, ◌++◌, map, fold, OnOk};
 ghost use Rattle.std.specs.List.{AllByRecursion, flat_map};
 ghost use Rattle.counter_bank.specs.Account.{all_parts, joined, AreTotals, NoneAbove};
 ghost use Rattle.replay_run.specs.Ends.{IsSeated, figures_at};
@@ -14,36 +14,30 @@ use std::alloc::Global;
 use std::marker::Model;
 
 /// The packets and bytes that the counter of each slot has counted, modulo 2^64; those of slots that the bank does not have
-/// are 0. A contract sees two numbers for each slot: its packets, then its bytes.
+/// are 0. A contract sees them as it sees the bank's.
 #[derive(Drop)]
 pub(crate) struct Counted {
     totals: Totals,
-    slots: u32,
 }
 
 impl Model for Counted {
-    ghost use Rattle.std.specs.Prelude.{◌≡◌, ◌*◌, ℕ, List, length};
+    ghost use Rattle.std.specs.Prelude.{ℕ, List};
 
     ghost Value = { List ℕ };
 
     ghost view = { λ c. c.totals };
-
-    ghost invariant = { λ c. length c.totals ≡ 2 * c.slots };
 }
 
 impl Counted {
-    /// What a bank of so many slots has counted, closed with the seat that all others were joined to.
-    pub(crate) fn close(bank: Bank, seat: Seat, slots: u32) -> Counted
-        requires slots { bank.slots ≡ slots }
+    /// What a bank has counted, closed with the seat that all others were joined to.
+    pub(crate) fn close(bank: Bank, seat: Seat) -> Counted
         requires bank { seat.bank ≡ bank.id }
         requires parts { seat.parts ≡ all_parts }
-        ensures slots { length result ≡ 2 * slots }
-        ensures totals { AreTotals result slots seat.added }
+        ensures totals { AreTotals result bank.slots seat.added }
         ensures noted { NoneAbove seat.noted seat.added }
     {
         Counted {
             totals: close_with(bank, seat),
-            slots,
         }
     }
 }
@@ -52,17 +46,13 @@ impl Counts for Counted {
     ghost figures = { figures_at };
 
     fn count(&self, slot: u32) -> (u64, u64) {
-        if slot < self.slots {
-            self.totals.get(slot)
-        } else {
-            (0, 0)
-        }
+        self.totals.get(slot)
     }
 }
 
 impl SlotCounts for Counted {
     fn slots(&self) -> u64 {
-        u64::from(self.slots)
+        u64::from(self.totals.slots())
     }
 }
 

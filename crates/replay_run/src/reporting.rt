@@ -18,7 +18,6 @@ use counter_bank::Seat;
 use ctl_lock::{ClosedDesk, Naming, Signed};
 use lane_work::LaneWork;
 use list_types::{List, NoMemory};
-use p4_types::events::SLOT_LIMIT;
 use p4_types::journal::{Entry, Report};
 use slot_totals::{cell_lines, count_lines};
 use std::alloc::Global;
@@ -58,7 +57,7 @@ pub fn report<J: Naming>(
     let mut records = Vec::new(alloc);
     join_works(alloc, &bank, &mut seat, &mut records, workers)?;
     join_works(alloc, &bank, &mut seat, &mut records, callers)?;
-    let counted = Counted::close(bank, seat, SLOT_LIMIT);
+    let counted = Counted::close(bank, seat);
     let plane = control.image().active();
     Ok(Report {
         journal: entries(alloc, journal)?,

@@ -1,36 +1,18 @@
 //! Changes of the entries by their tables, which can be undone.
-ghost use Rattle.std.specs.Prelude.{◌≡◌, ◌+◌, ◌<◌, All, length, IfOk, OnOk, OnErr};
+ghost use Rattle.std.specs.Prelude.{◌≡◌, ◌+◌, ◌<◌, All, length, OnOk, OnErr};
 ghost use Rattle.plane_spec.specs.Entries.{insert_cause, absence_cause, new_entry, next_number, inserted, modified, deleted};
 ghost use Rattle.plane_spec.specs.Profiles.{entry_rows};
 ghost use Rattle.table_store.specs.Answers.{Refuses};
 ghost use Rattle.table_store.specs.Undo.{IsStep};
 ghost use Rattle.table_store.specs.Groups.{flat, AreGroups};
 
-use crate::causes::{absence_cause, entry_rows, insert_cause, is_counted};
+use crate::causes::{absence_cause, entry_rows, insert_cause};
 use crate::groups::{self, Group};
-use list_types::{NoMemory, Refusal};
+use list_types::Refusal;
 use p4_types::code::Cause;
-use p4_types::events::SLOT_LIMIT;
 use p4_types::info::Table;
-use p4_types::table::{Entry, EntryChange, EntryName, Room};
+use p4_types::table::{EntryChange, EntryName, Room};
 use std::alloc::Global;
-
-fn new_entry(table: &Table, room: Room, change: &EntryChange) -> Result<Entry, NoMemory>
-    ensures { IfOk result (λ entry. entry ≡ new_entry table.now room change.now) }
-{
-    let slot = if is_counted(table) {
-        Some(SLOT_LIMIT.saturating_sub(room.slots))
-    } else {
-        None
-    };
-    Ok(Entry {
-        name: change.name.copy(),
-        seq: u64::MAX - room.numbers,
-        controller_metadata: change.controller_metadata,
-        action: change.action.share()?,
-        slot,
-    })
-}
 
 /// Makes the entry of an INSERT.
 pub(crate) fn insert(
@@ -53,8 +35,7 @@ pub(crate) fn insert(
     if let Some(cause) = insert_cause(groups, table, &change.name, rows, room) {
         return Err(Refusal::For(cause));
     }
-    let entry = new_entry(table, room, change)?;
-    groups::insert(groups, alloc, entry)?;
+    groups::insert(groups, alloc, table, room, change)?;
     Ok(())
 }
 

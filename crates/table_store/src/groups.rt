@@ -3,7 +3,7 @@ ghost use Rattle.std.specs.Prelude.{◌≡◌, ◌==◌, ◌<◌, ◌+◌, [], �
 ghost use Rattle.std.specs.Prelude as spec;
 ghost use Rattle.std.specs.List.{AllByRecursion};
 ghost use Rattle.std.specs.Option.{option_map};
-ghost use Rattle.plane_spec.specs.Entries.{inserted, modified, deleted, entry_named, best};
+ghost use Rattle.plane_spec.specs.Entries.{new_entry, inserted, modified, deleted, entry_named, best};
 ghost use Rattle.table_store.specs.Order.{AreOfOneTable, AreOfLowerTables};
 ghost use Rattle.table_store.specs.Groups.{flat, IsGroup, AreGroups, IsAt, IsGap, IsFresh};
 ghost use Rattle.table_store.specs.Undo.{was, WasGroup, IsTouched, IsStep};
@@ -11,7 +11,8 @@ ghost use Rattle.table_store.specs.Undo.{was, WasGroup, IsTouched, IsStep};
 use crate::rows;
 use list_types::NoMemory;
 use match_index::{MatchIndex, Row};
-use p4_types::table::{Entry, EntryChange, EntryName};
+use p4_types::info::Table;
+use p4_types::table::{Entry, EntryChange, EntryName, Room};
 use std::alloc::Global;
 use undo_vec::UndoVec;
 
@@ -73,41 +74,47 @@ pub(crate) fn best<'a>(groups: &'a [Group], table: u32, key: &[u128]) -> Option<
     }
 }
 
-/// Adds an entry behind those of its table.
-pub(crate) fn insert(groups: &mut Vec<Group>, alloc: Global, entry: Entry) -> Result<(), NoMemory>
+/// Adds the entry that an INSERT makes behind those of its table.
+pub(crate) fn insert(
+    groups: &mut Vec<Group>,
+    alloc: Global,
+    table: &Table,
+    room: Room,
+    change: &EntryChange,
+) -> Result<(), NoMemory>
     requires groups { AreGroups groups.old.items }
-    requires fresh { IsFresh entry (flat groups.old.items) }
-    ensures ok { OnOk result (flat groups.new.items ≡ inserted entry (flat groups.old.items)) }
+    requires fresh { IsFresh (new_entry table.now room change.now) (flat groups.old.items) }
+    ensures ok { OnOk result (flat groups.new.items ≡ inserted (new_entry table.now room change.now) (flat groups.old.items)) }
     ensures err { OnErr result (flat groups.new.items ≡ flat groups.old.items) }
     ensures groups { AreGroups groups.new.items }
-    ensures step { IsStep entry.name.table groups.old.items groups.new.items }
+    ensures step { IsStep change.now.name.table groups.old.items groups.new.items }
 {
-    match place_of(groups, entry.name.table) {
+    match place_of(groups, change.name.table) {
         Ok(place) => {
             let group = &mut groups[place];
-            rows::add(group, alloc, entry)?;
+            rows::add(group, alloc, table, room, change)?;
         }
         Err(place) => {
-            groups.insert(place, opened(alloc, entry)?)?;
+            groups.insert(place, opened(alloc, table, room, change)?)?;
         }
     }
     Ok(())
 }
 
 // A group of one entry, which was opened for it.
-fn opened(alloc: Global, entry: Entry) -> Result<Group, NoMemory>
-    ensures table { IfOk result (λ group. group.table ≡ entry.name.table) }
-    ensures entries { IfOk result (λ group. group.entries.items ≡ entry ∷ []) }
+fn opened(alloc: Global, table: &Table, room: Room, change: &EntryChange) -> Result<Group, NoMemory>
+    ensures table { IfOk result (λ group. group.table ≡ change.now.name.table) }
+    ensures entries { IfOk result (λ group. group.entries.items ≡ new_entry table.now room change.now ∷ []) }
     ensures before { IfOk result (λ group. group.entries.before ≡ []) }
     ensures group { IfOk result IsGroup }
 {
     let mut group = Group {
-        table: entry.name.table,
+        table: change.name.table,
         entries: UndoVec::new(alloc),
         index: MatchIndex::new(alloc),
         noted: Vec::new(alloc),
     };
-    rows::add(&mut group, alloc, entry)?;
+    rows::add(&mut group, alloc, table, room, change)?;
     Ok(group)
 }
 

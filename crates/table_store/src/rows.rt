@@ -1,18 +1,21 @@
 //! The entries of one table.
-ghost use Rattle.std.specs.Prelude.{◌≡◌, ◌==◌, ◌++◌, [], ◌∷◌, None, false, IfOk, OnOk, OnErr};
+ghost use Rattle.std.specs.Prelude.{◌≡◌, ◌==◌, ◌++◌, [], ◌∷◌, Some, None, if◌then◌else◌, false, IfOk, OnOk, OnErr};
 ghost use Rattle.std.specs.Prelude as spec;
 ghost use Rattle.std.specs.List.{position};
 ghost use Rattle.p4_types.specs.declared.keys.FieldTest.{FieldTest};
-ghost use Rattle.plane_spec.specs.Entries.{same_name, with_change, modified, deleted};
+ghost use Rattle.plane_spec.specs.Entries.{same_name, with_change, modified, deleted, is_counted, next_number, next_slot, new_entry};
 ghost use Rattle.match_index.specs.Index.{row_of, has_row, Covers};
 ghost use Rattle.match_index.specs.Order.{AreInOrder};
 ghost use Rattle.table_store.specs.Groups.{IsGroup, IsFresh};
 ghost use Rattle.table_store.specs.Undo.{WasGroup, IsRowStep};
 
+use crate::causes::is_counted;
 use crate::groups::Group;
 use list_types::NoMemory;
 use match_index::{MatchIndex, Row};
-use p4_types::table::{Entry, EntryChange, EntryName};
+use p4_types::events::SLOT_LIMIT;
+use p4_types::info::Table;
+use p4_types::table::{Entry, EntryChange, EntryName, Room};
 use std::alloc::Global;
 
 fn place_of_number(entries: &[Entry], seq: u64) -> Option<usize>
@@ -36,20 +39,51 @@ fn place_of(index: &MatchIndex, entries: &[Entry], name: &EntryName) -> Option<u
     }
 }
 
-/// Adds an entry behind the others.
-pub(crate) fn add(group: &mut Group, alloc: Global, entry: Entry) -> Result<(), NoMemory>
+fn next_number(room: Room) -> u64
+    ensures { result ≡ next_number room }
+{
+    u64::MAX - room.numbers
+}
+
+// The slot of the entry that an INSERT makes.
+fn new_slot(table: &Table, room: Room) -> Option<u32>
+    ensures { result ≡ (if is_counted table.now then Some (next_slot room) else None) }
+{
+    if is_counted(table) {
+        Some(SLOT_LIMIT.saturating_sub(room.slots))
+    } else {
+        None
+    }
+}
+
+/// Adds the entry that an INSERT makes behind the others. It is made where it will stand, since an entry is large.
+pub(crate) fn add(
+    group: &mut Group,
+    alloc: Global,
+    table: &Table,
+    room: Room,
+    change: &EntryChange,
+) -> Result<(), NoMemory>
     requires group { IsGroup group.old }
-    requires table { entry.name.table ≡ group.old.table }
-    requires fresh { IsFresh entry group.old.entries.items }
-    ensures ok { OnOk result (group.new.entries.items ≡ group.old.entries.items ++ entry ∷ []) }
+    requires table { change.now.name.table ≡ group.old.table }
+    requires fresh { IsFresh (new_entry table.now room change.now) group.old.entries.items }
+    ensures ok { OnOk result (group.new.entries.items ≡ group.old.entries.items ++ new_entry table.now room change.now ∷ []) }
     ensures err { OnErr result (group.new.entries.items ≡ group.old.entries.items) }
     ensures group { IsGroup group.new }
     ensures step { IsRowStep group.old group.new }
 {
-    let seq = entry.seq;
-    group.noted.push(MatchIndex::row(&entry.name, seq))?;
-    group.index.insert(alloc, &entry.name, seq)?;
-    group.entries.push(entry)?;
+    let seq = next_number(room);
+    let row = MatchIndex::row(&change.name, seq);
+    group.noted.push(row)?;
+    group.index.insert(alloc, &change.name, row)?;
+    let action = change.action.share()?;
+    group.entries.push(Entry {
+        name: change.name.copy(),
+        seq,
+        controller_metadata: change.controller_metadata,
+        action,
+        slot: new_slot(table, room),
+    })?;
     Ok(())
 }
 

@@ -3,7 +3,7 @@ use Rattle.std.specs.Prelude.{option_map}
 use Rattle.std.specs.List.{AllByRecursion, flat_map}
 use Rattle.std.proofs.lemmas.List.{length-append, map-append}
 use Rattle.std.proofs.lemmas.List.Sums.{fold-append}
-use Rattle.counter_bank.specs.Account.{Account, first_seat}
+use Rattle.counter_bank.specs.Account.{Account, AreTotals, Opened, first_seat}
 use Rattle.counter_bank.specs.Account as accounts
 use Rattle.ctl_lock.specs.Calls.{journal_of}
 use Rattle.ctl_lock.specs.Finishing.{Closing}
@@ -81,5 +81,6 @@ returns g c = λ tape each number calls items.
     let journal_is = c.in_ok-entries.ensures ∙ ap (λ (l : List Signed). map (λ (s : Signed). s.entry) l) parts.ensures.journal in
     let counts_are = c.in_ok-count_lines.ensures ∙ ap (λ (p : Option Plane). count_lines (figures_at c.close-counted.result) p) plane in
     let cells_are = c.in_ok-cell_lines.ensures ∙ ap (λ (p : Option Plane). cell_lines (figures_at c.close-counted.result) p) plane in
+    let slots_are = ap (λ (b : Opened). b.slots) parts.ensures.bank ∙ c.requires.slots in
     reported j.start tape signed told callers workers parts.result.0.control c.args.rest c.join_works-2.new.seat c.close-counted.result _ whole c.requires.read parts.ensures.seen number control_is nothing seat_is
-    c.close-counted.ensures.totals c.close-counted.ensures.noted journal_is c.new.ensures records_are counts_are cells_are
+    (subst (λ (n : ℕ). AreTotals c.close-counted.result n c.join_works-2.new.seat.added) slots_are c.close-counted.ensures.totals) c.close-counted.ensures.noted journal_is c.new.ensures records_are counts_are cells_are

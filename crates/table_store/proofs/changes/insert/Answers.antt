@@ -1,4 +1,4 @@
-use Rattle.std.proofs.Common.{ℕ, List, ap, sym, ◌∙◌}
+use Rattle.std.proofs.Common.{ℕ, List, refl, ap, sym, ◌∙◌}
 use Rattle.plane_spec.specs.Entries.{insert_cause}
 use Rattle.plane_spec.specs.Profiles.{entry_rows}
 use Rattle.table_store.specs.declared.groups.Group.{Group}
@@ -12,10 +12,7 @@ insert-requires-clause-fresh c =
     let rows : ℕ = entry_rows c.args.change.now.action in
     let cause = ap (λ (gs : List Group). insert_cause c.args.table.now rows c.args.room c.args.change.now.name (flat gs)) (sym c.deref.ensures.value) in
     let asked = ap (λ (n : ℕ). insert_cause c.args.table.now n c.args.room c.args.change.now.name (flat c.deref.result.now)) (sym c.entry_rows-rows.ensures) in
-    made_fresh _ c.args.table.now rows c.args.room c.args.change.now _ c.in_ok-entry.ensures (cause ∙ asked ∙ sym c.insert_cause.ensures ∙ c.in_default.is) c.requires.above
+    made_fresh _ c.args.table.now rows c.args.room c.args.change.now _ refl (cause ∙ asked ∙ sym c.insert_cause.ensures ∙ c.in_default.is) c.requires.above
 
 pub returns-in-Some-clause-step : goal.returns-in-Some-clause-step
 returns-in-Some-clause-step c = step_none _ _
-
-pub returns-in_err-entry-clause-step : goal.returns-in_err-entry-clause-step
-returns-in_err-entry-clause-step c = step_none _ _

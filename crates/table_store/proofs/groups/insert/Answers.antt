@@ -1,4 +1,5 @@
 use Rattle.std.proofs.Common.{List, refl, sym, ap, subst, ◌∙◌}
+use Rattle.plane_spec.specs.Entries.{new_entry}
 use Rattle.table_store.specs.declared.groups.Group.{Group}
 use Rattle.table_store.specs.Groups.{flat, AreGroups}
 use Rattle.table_store.specs.Undo.{IsStep}
@@ -14,7 +15,7 @@ pub add-requires-clause-table : goal.add-requires-clause-table
 add-requires-clause-table c = sym (of_table _ c.requires.groups _ _ (rw c.deref.ensures.value at c.in-Ok.ensures.found) _ c.index_mut-group.ensures.value)
 
 pub add-requires-clause-fresh : goal.add-requires-clause-fresh
-add-requires-clause-fresh c = fresh_here _ c.requires.groups _ _ (rw c.deref.ensures.value at c.in-Ok.ensures.found) _ c.index_mut-group.ensures.value c.args.entry c.requires.fresh
+add-requires-clause-fresh c = fresh_here _ c.requires.groups _ _ (rw c.deref.ensures.value at c.in-Ok.ensures.found) _ c.index_mut-group.ensures.value (new_entry c.args.table.now c.args.room c.args.change.now) c.requires.fresh
 
 pub returns-in_err-add-in-Ok-clause-err : goal.returns-in_err-add-in-Ok-clause-err
 returns-in_err-add-in-Ok-clause-err c = on_err _ _ (flat_same _ c.requires.groups _ _ (rw c.deref.ensures.value at c.in-Ok.ensures.found) _ c.index_mut-group.ensures.value _ c.in_err-add-in-Ok.ensures.err)
@@ -45,12 +46,12 @@ returns-in_ok-insert-in-Err-clause-groups c =
 
 pub returns-in_ok-insert-in-Err-clause-step : goal.returns-in_ok-insert-in-Err-clause-step
 returns-in_ok-insert-in-Err-clause-step c =
-    subst (λ (gs : List Group). IsStep c.args.entry.name.table c.args.groups.now.items gs) (sym c.in_ok-insert-in-Err.ensures.items)
-    (step_insert c.args.groups.now.items c.args.entry.name.table c.in-Err.place c.in_ok-opened-in-Err.field-0 (sym c.in_ok-opened-in-Err.ensures.table) c.in_ok-opened-in-Err.ensures.before)
+    subst (λ (gs : List Group). IsStep c.args.change.now.name.table c.args.groups.now.items gs) (sym c.in_ok-insert-in-Err.ensures.items)
+    (step_insert c.args.groups.now.items c.args.change.now.name.table c.in-Err.place c.in_ok-opened-in-Err.field-0 (sym c.in_ok-opened-in-Err.ensures.table) c.in_ok-opened-in-Err.ensures.before)
 
 pub returns-in_err-opened-in-Err-clause-step : goal.returns-in_err-opened-in-Err-clause-step
 returns-in_err-opened-in-Err-clause-step c = step_none _ _
 
 pub returns-in_err-insert-in-Err-clause-step : goal.returns-in_err-insert-in-Err-clause-step
 returns-in_err-insert-in-Err-clause-step c =
-    subst (λ (gs : List Group). IsStep c.args.entry.name.table c.args.groups.now.items gs) (sym c.in_err-insert-in-Err.ensures.items) (step_none c.args.entry.name.table c.args.groups.now.items)
+    subst (λ (gs : List Group). IsStep c.args.change.now.name.table c.args.groups.now.items gs) (sym c.in_err-insert-in-Err.ensures.items) (step_none c.args.change.now.name.table c.args.groups.now.items)

@@ -1,9 +1,10 @@
 use Rattle.std.proofs.Common.{ap, sym, ◌∙◌, arith}
 use Rattle.counter_bank.proofs.Keeping.{splits}
+use Rattle.counter_bank.proofs.Spread.{some_places}
 use Rattle.counter_bank.proofs.bank.Bank.split.Goals as goal
 
 pub split_seat-given-requires : goal.split_seat-given-requires
 split_seat-given-requires c =
     let table = ap (λ a. a.bank) c.seat.view_is ∙ c.requires.bank ∙ sym (ap (λ b. b.id) c.self.view_is) in
     let parts = ap (λ a. a.parts) c.seat.view_is in
-    (table, omega (arith, c.self.invariant.1, c.self.invariant.3), splits _ _ _ (omega (arith, parts, c.requires.parts)))
+    (table, omega (arith, c.self.invariant.1, some_places c.self.inside.slots c.self.invariant.3), splits _ _ _ (omega (arith, parts, c.requires.parts)))
