@@ -7,6 +7,9 @@ size, and the peak memory as a multiple of the configuration's bytes. A ratio ne
 configuration is judged in time linear in its size. Each configuration is judged to the end of the rules, but for the
 headers, of which there are more than 128 (L3): they are looked up by the rule before.
 
+Then it puts short items of many kinds into lists of the program, as many as 1 MiB of JSON has, which most often are refused at
+once, and prints for each list the item for which most memory was held; at most 12 times the bytes are meant.
+
 Of each time the least of three runs counts. Times and memory are of this machine.
 """
 import json
@@ -85,6 +88,18 @@ def configs(info, program, size):
     yield "actions and references", *with_actions(info, program, size)
 
 
+LISTS = ("header_types", "headers", "fields", "parse_states", "transitions", "order", "errors", "actions", "primitives", "action_ids", "key", "input")
+SHORT = (b"0", b"null", b"true", b'""', b"[]", b"{}", b"[[0]]", b'{"a":1}', b'["",0]', b'["",8]', b'["a",8]', b'{"op":"","parameters":[]}',
+         b'{"name":"","fields":[]}', b'{"type":"default","next_state":null}')
+
+
+def short(info, program):
+    """The name of each list, an item, and a program in which the list has the item over and over."""
+    for name in LISTS:
+        for item in SHORT:
+            yield name, item, info, filled(program, b'"%s":[' % name.encode(), lambda _: item, LONGEST // 4)
+
+
 def judged(program, config):
     """The least time of three runs, the greatest peak, and the status."""
     seconds, peaks, status = 1e9, 0, 0
@@ -108,6 +123,15 @@ def main():
             seconds, peak, status = judged(program, config)
             print("%s, %.2f MiB: %.3f s, %.2f times the first, peak %.1f times the bytes%s"
                   % (name, len(config) / 2**20, seconds, seconds / first.setdefault(name, seconds), peak * 1024 / len(config), " (refused)" if status else ""), flush=True)
+    most = {}
+    for name, item, info, longer in short(parts[1], plain):
+        config = long_field(1, info) + long_field(2, longer)
+        _, status, peak = run(program, config, ("check",))
+        if status not in (0, 8):
+            sys.exit("%s: status %d" % (program, status))
+        most[name] = max(most.get(name, (0, "")), (peak * 1024 / len(config), item.decode()))
+    for name, (times, item) in most.items():
+        print("short items in %s, 1 MiB: peak at most %.1f times the bytes, for %s (at most 12 are meant)" % (name, times, item), flush=True)
 
 
 if __name__ == "__main__":

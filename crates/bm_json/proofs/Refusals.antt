@@ -1,5 +1,5 @@
 -- Refusals by the rule L1.
-use Rattle.std.proofs.Common.{◌≡◌, ℕ, Bool, true, false, cond, List, Option, Some, None, Err, refl, sym, ap, ◌∙◌}
+use Rattle.std.proofs.Common.{◌≡◌, ℕ, Bool, true, false, cond, List, Option, Some, None, Result, Ok, Err, refl, sym, ap, ◌∙◌, subst}
 use Rattle.std.specs.Str.{is_utf8, IsUtf8}
 use Rattle.std.proofs.lemmas.Bool.{false≢true}
 use Rattle.std.proofs.lemmas.Str.{IsUtf8-from_is_utf8, is_utf8-from_IsUtf8}
@@ -8,7 +8,7 @@ use Rattle.serde_json.specs.Read.{read}
 use Rattle.list_types.specs.declared.memory.Refusal.{Refusal}
 use Rattle.list_types.specs.declared.memory.Refusal.TheVariants.{NoMemory, For}
 use Rattle.bm_json.specs.declared.faults.JsonFault.{JsonFault}
-use Rattle.bm_json.specs.Program.{IsOfRule, Refused, json_in, program_in, flaw_of, flaw_by, Answers}
+use Rattle.bm_json.specs.Program.{IsOfRule, Refused, Finds, json_in, program_in, flaw_of, flaw_by, Answers}
 use Rattle.bm_records.specs.declared.raw.RawProgram.{RawProgram}
 
 -- what is told of the rule L1 is a refusal where nothing is read
@@ -41,3 +41,11 @@ breaks bytes (For fault) program rule is found broken = ap flaw_by found ∙ (br
 pub is_first : (bytes : List ℕ) (e : Refusal JsonFault) → Refused e (program_in bytes) → Answers bytes (Err e)
 is_first bytes NoMemory refused = tt
 is_first bytes (For fault) refused = ap flaw_by refused.0 ∙ ap Some (sym refused.1)
+
+refused_by : {A B : Type 0} (e : Refusal JsonFault) (read : Option A) (all : Option B) → Refused e read → (read ≡ None → all ≡ None) → Refused e all
+refused_by NoMemory read all refused f = tt
+refused_by (For fault) read all refused f = (f refused.0, refused.1)
+
+-- where a part is refused, so is the whole that has nothing without it
+pub whole_refused : {A B : Type 0} (x : Result B (Refusal JsonFault)) (e : Refusal JsonFault) (read : Option A) (all : Option B) → x ≡ Err e → Refused e read → (read ≡ None → all ≡ None) → Finds (λ (y : B). y) x all
+whole_refused x e read all is refused f = subst (λ y. Finds (λ z. z) y all) (sym is) (refused_by e read all refused f)

@@ -11,7 +11,7 @@ use bm_records::raw::{
     Transition, TypeField,
 };
 use bm_values::literals::width_bits;
-use list_types::Text;
+use json_shapes::Name;
 use name_index::Index;
 
 fn is_left_out<T>(part: &Part<T>) -> bool
@@ -29,14 +29,14 @@ fn any_left_out<T>(parts: &[Part<T>]) -> bool
     parts.iter().any(|part| is_left_out(part))
 }
 
-fn type_left_out(header_type: &HeaderType) -> bool
+fn type_left_out(header_type: &HeaderType<'_>) -> bool
     ensures { result ≡ type_left_out header_type.now }
 {
     let fields = header_type.fields.as_slice();
     fields.iter().any(|field| is_left_out(&field.width))
 }
 
-fn expression_left_out(expression: &Expression) -> bool
+fn expression_left_out(expression: &Expression<'_>) -> bool
     ensures { result ≡ expression_left_out expression.now }
 {
     match &expression.node {
@@ -52,7 +52,7 @@ fn expression_left_out(expression: &Expression) -> bool
     }
 }
 
-fn condition_left_out(condition: &Option<Expression>) -> bool
+fn condition_left_out(condition: &Option<Expression<'_>>) -> bool
     ensures { result ≡ condition_left_out condition.now }
 {
     match condition {
@@ -61,7 +61,7 @@ fn condition_left_out(condition: &Option<Expression>) -> bool
     }
 }
 
-fn name_left_out(name: &LearnListName) -> bool
+fn name_left_out(name: &LearnListName<'_>) -> bool
     ensures { result ≡ name_left_out name.now }
 {
     match name {
@@ -71,7 +71,7 @@ fn name_left_out(name: &LearnListName) -> bool
     }
 }
 
-fn primitive_left_out(primitive: &Primitive) -> bool
+fn primitive_left_out(primitive: &Primitive<'_>) -> bool
     ensures { result ≡ primitive_left_out primitive.now }
 {
     match primitive {
@@ -94,19 +94,19 @@ fn any_datum(items: &[Datum]) -> bool
     items.iter().any(|item| is_left_out(&item.width))
 }
 
-fn any_primitive(items: &[Primitive]) -> bool
+fn any_primitive(items: &[Primitive<'_>]) -> bool
     ensures { result ≡ list_any (primitive_left_out) items.now }
 {
     items.iter().any(|item| primitive_left_out(item))
 }
 
-fn action_left_out(action: &Action) -> bool
+fn action_left_out(action: &Action<'_>) -> bool
     ensures { result ≡ action_left_out action.now }
 {
     any_datum(action.runtime_data.as_slice()) || any_primitive(action.primitives.as_slice())
 }
 
-fn parser_op_left_out(op: &ParserOp) -> bool
+fn parser_op_left_out(op: &ParserOp<'_>) -> bool
     ensures { result ≡ parser_op_left_out op.now }
 {
     match op {
@@ -136,25 +136,25 @@ fn mask_left_out(mask: &Option<RawLiteral>) -> bool
     }
 }
 
-fn transition_left_out(transition: &Transition) -> bool
+fn transition_left_out(transition: &Transition<'_>) -> bool
     ensures { result ≡ transition_left_out transition.now }
 {
     match_left_out(&transition.value) || mask_left_out(&transition.mask)
 }
 
-fn any_parser_op(items: &[ParserOp]) -> bool
+fn any_parser_op(items: &[ParserOp<'_>]) -> bool
     ensures { result ≡ list_any (parser_op_left_out) items.now }
 {
     items.iter().any(|item| parser_op_left_out(item))
 }
 
-fn any_transition(items: &[Transition]) -> bool
+fn any_transition(items: &[Transition<'_>]) -> bool
     ensures { result ≡ list_any (transition_left_out) items.now }
 {
     items.iter().any(|item| transition_left_out(item))
 }
 
-fn state_left_out(state: &ParseState) -> bool
+fn state_left_out(state: &ParseState<'_>) -> bool
     ensures { result ≡ state_left_out state.now }
 {
     any_parser_op(state.parser_ops.as_slice())
@@ -162,7 +162,7 @@ fn state_left_out(state: &ParseState) -> bool
         || any_transition(state.transitions.as_slice())
 }
 
-fn input_left_out(input: &CalculationInput) -> bool
+fn input_left_out(input: &CalculationInput<'_>) -> bool
     ensures { result ≡ input_left_out input.now }
 {
     match input {
@@ -172,20 +172,20 @@ fn input_left_out(input: &CalculationInput) -> bool
     }
 }
 
-fn calculation_left_out(calculation: &Calculation) -> bool
+fn calculation_left_out(calculation: &Calculation<'_>) -> bool
     ensures { result ≡ calculation_left_out calculation.now }
 {
     let input = calculation.input.as_slice();
     input.iter().any(|input| input_left_out(input))
 }
 
-fn checksum_left_out(checksum: &Checksum) -> bool
+fn checksum_left_out(checksum: &Checksum<'_>) -> bool
     ensures { result ≡ checksum_left_out checksum.now }
 {
     condition_left_out(&checksum.if_cond)
 }
 
-fn learn_list_left_out(list: &LearnList) -> bool
+fn learn_list_left_out(list: &LearnList<'_>) -> bool
     ensures { result ≡ learn_list_left_out list.now }
 {
     any_left_out(list.elements.as_slice())
@@ -200,13 +200,13 @@ fn default_left_out(entry: &Option<DefaultEntry>) -> bool
     }
 }
 
-fn table_left_out(table: &Table) -> bool
+fn table_left_out(table: &Table<'_>) -> bool
     ensures { result ≡ table_left_out table.now }
 {
     table.has_entries || default_left_out(&table.default_entry)
 }
 
-fn selector_left_out(selector: &Option<Selector>) -> bool
+fn selector_left_out(selector: &Option<Selector<'_>>) -> bool
     ensures { result ≡ selector_left_out selector.now }
 {
     match selector {
@@ -215,19 +215,19 @@ fn selector_left_out(selector: &Option<Selector>) -> bool
     }
 }
 
-fn any_table(items: &[Table]) -> bool
+fn any_table(items: &[Table<'_>]) -> bool
     ensures { result ≡ list_any (table_left_out) items.now }
 {
     items.iter().any(|item| table_left_out(item))
 }
 
-fn any_profile(items: &[ActionProfile]) -> bool
+fn any_profile(items: &[ActionProfile<'_>]) -> bool
     ensures { result ≡ list_any (λ profile. selector_left_out profile.selector) items.now }
 {
     items.iter().any(|item| selector_left_out(&item.selector))
 }
 
-fn any_conditional(items: &[Conditional]) -> bool
+fn any_conditional(items: &[Conditional<'_>]) -> bool
     ensures { result ≡ list_any (λ conditional. expression_left_out conditional.expression) items.now }
 {
     items
@@ -235,7 +235,7 @@ fn any_conditional(items: &[Conditional]) -> bool
         .any(|item| expression_left_out(&item.expression))
 }
 
-fn pipeline_left_out(pipeline: &Pipeline) -> bool
+fn pipeline_left_out(pipeline: &Pipeline<'_>) -> bool
     ensures { result ≡ pipeline_left_out pipeline.now }
 {
     any_table(pipeline.tables.as_slice())
@@ -244,7 +244,7 @@ fn pipeline_left_out(pipeline: &Pipeline) -> bool
 }
 
 #[tactic(auto, using(bm_records::proofs::Together::over_more))]
-fn bits_over(fields: &[TypeField]) -> u64
+fn bits_over(fields: &[TypeField<'_>]) -> u64
     ensures { result ≡ bits_over fields.now }
 {
     let mut bits = 0u64;
@@ -255,13 +255,16 @@ fn bits_over(fields: &[TypeField]) -> u64
 }
 
 /// The header type of a header.
-pub(crate) fn type_of<'a>(types: &Index<'a, HeaderType>, header: &Header) -> Option<&'a HeaderType>
+pub(crate) fn type_of<'a, 't>(
+    types: &Index<'a, HeaderType<'t>>,
+    header: &Header<'_>,
+) -> Option<&'a HeaderType<'t>>
     ensures { option_copied result ≡ type_named types.now header.now.header_type }
 {
-    types.named(&header.header_type)
+    types.named_at(header.header_type.as_str())
 }
 
-fn has_ragged_type(types: &Index<HeaderType>, header: &Header) -> bool
+fn has_ragged_type(types: &Index<HeaderType<'_>>, header: &Header<'_>) -> bool
     ensures { result ≡ has_ragged_type types.now header.now }
 {
     match type_of(types, header) {
@@ -270,22 +273,26 @@ fn has_ragged_type(types: &Index<HeaderType>, header: &Header) -> bool
     }
 }
 
-fn is_ragged(types: &Index<HeaderType>, header: &Header) -> bool
+fn is_ragged(types: &Index<HeaderType<'_>>, header: &Header<'_>) -> bool
     ensures { result ≡ is_ragged types.now header.now }
 {
     !header.metadata && has_ragged_type(types, header)
 }
 
-fn names_ragged(types: &Index<HeaderType>, headers: &Index<Header>, name: &Text) -> bool
+fn names_ragged(types: &Index<HeaderType<'_>>, headers: &Index<Header<'_>>, name: &Name<'_>) -> bool
     ensures { result ≡ names_ragged types.now headers.now name.now }
 {
-    match headers.named(name) {
+    match headers.named_at(name.as_str()) {
         None => false,
         Some(header) => has_ragged_type(types, header),
     }
 }
 
-fn extracts_ragged(types: &Index<HeaderType>, headers: &Index<Header>, op: &ParserOp) -> bool
+fn extracts_ragged(
+    types: &Index<HeaderType<'_>>,
+    headers: &Index<Header<'_>>,
+    op: &ParserOp<'_>,
+) -> bool
     ensures { result ≡ extracts_ragged types.now headers.now op.now }
 {
     match op {
@@ -294,32 +301,40 @@ fn extracts_ragged(types: &Index<HeaderType>, headers: &Index<Header>, op: &Pars
     }
 }
 
-fn any_extracts_ragged(types: &Index<HeaderType>, headers: &Index<Header>, ops: &[ParserOp]) -> bool
+fn any_extracts_ragged(
+    types: &Index<HeaderType<'_>>,
+    headers: &Index<Header<'_>>,
+    ops: &[ParserOp<'_>],
+) -> bool
     ensures { result ≡ list_any (extracts_ragged types.now headers.now) ops.now }
 {
     ops.iter().any(|op| extracts_ragged(types, headers, op))
 }
 
 fn any_state_extracts_ragged(
-    types: &Index<HeaderType>,
-    headers: &Index<Header>,
-    states: &[ParseState],
+    types: &Index<HeaderType<'_>>,
+    headers: &Index<Header<'_>>,
+    states: &[ParseState<'_>],
 ) -> bool
     ensures { result ≡ list_any (λ state. list_any (extracts_ragged types.now headers.now) state.parser_ops) states.now }
 {
     states.iter().any(|state| any_extracts_ragged(types, headers, state.parser_ops.as_slice()))
 }
 
-fn any_name_ragged(types: &Index<HeaderType>, headers: &Index<Header>, names: &[Text]) -> bool
+fn any_name_ragged(
+    types: &Index<HeaderType<'_>>,
+    headers: &Index<Header<'_>>,
+    names: &[Name<'_>],
+) -> bool
     ensures { result ≡ list_any (names_ragged types.now headers.now) names.now }
 {
     names.iter().any(|name| names_ragged(types, headers, name))
 }
 
 fn packets_left_out(
-    types: &Index<HeaderType>,
-    headers: &Index<Header>,
-    program: &RawProgram,
+    types: &Index<HeaderType<'_>>,
+    headers: &Index<Header<'_>>,
+    program: &RawProgram<'_>,
 ) -> bool
     requires types { types.now ≡ program.now.header_types }
     requires headers { headers.now ≡ program.now.headers }
@@ -329,19 +344,19 @@ fn packets_left_out(
         || any_state_extracts_ragged(types, headers, program.parser.parse_states.as_slice())
 }
 
-fn any_type(items: &[HeaderType]) -> bool
+fn any_type(items: &[HeaderType<'_>]) -> bool
     ensures { result ≡ list_any (type_left_out) items.now }
 {
     items.iter().any(|item| type_left_out(item))
 }
 
-fn any_ragged(types: &Index<HeaderType>, headers: &[Header]) -> bool
+fn any_ragged(types: &Index<HeaderType<'_>>, headers: &[Header<'_>]) -> bool
     ensures { result ≡ list_any (is_ragged types.now) headers.now }
 {
     headers.iter().any(|header| is_ragged(types, header))
 }
 
-fn headers_left_out(types: &Index<HeaderType>, program: &RawProgram) -> bool
+fn headers_left_out(types: &Index<HeaderType<'_>>, program: &RawProgram<'_>) -> bool
     requires { types.now ≡ program.now.header_types }
     ensures { result ≡ headers_left_out program.now }
 {
@@ -350,31 +365,31 @@ fn headers_left_out(types: &Index<HeaderType>, program: &RawProgram) -> bool
         || any_ragged(types, program.headers.as_slice())
 }
 
-fn any_calculation(items: &[Calculation]) -> bool
+fn any_calculation(items: &[Calculation<'_>]) -> bool
     ensures { result ≡ list_any (calculation_left_out) items.now }
 {
     items.iter().any(|item| calculation_left_out(item))
 }
 
-fn any_checksum(items: &[Checksum]) -> bool
+fn any_checksum(items: &[Checksum<'_>]) -> bool
     ensures { result ≡ list_any (checksum_left_out) items.now }
 {
     items.iter().any(|item| checksum_left_out(item))
 }
 
-fn any_learn_list(items: &[LearnList]) -> bool
+fn any_learn_list(items: &[LearnList<'_>]) -> bool
     ensures { result ≡ list_any (learn_list_left_out) items.now }
 {
     items.iter().any(|item| learn_list_left_out(item))
 }
 
-fn any_action(items: &[Action]) -> bool
+fn any_action(items: &[Action<'_>]) -> bool
     ensures { result ≡ list_any (action_left_out) items.now }
 {
     items.iter().any(|item| action_left_out(item))
 }
 
-fn objects_left_out(program: &RawProgram) -> bool
+fn objects_left_out(program: &RawProgram<'_>) -> bool
     ensures { result ≡ objects_left_out program.now }
 {
     any_calculation(program.calculations.as_slice())
@@ -383,13 +398,13 @@ fn objects_left_out(program: &RawProgram) -> bool
         || any_action(program.actions.as_slice())
 }
 
-fn any_state(items: &[ParseState]) -> bool
+fn any_state(items: &[ParseState<'_>]) -> bool
     ensures { result ≡ list_any (state_left_out) items.now }
 {
     items.iter().any(|item| state_left_out(item))
 }
 
-fn steps_left_out(program: &RawProgram) -> bool
+fn steps_left_out(program: &RawProgram<'_>) -> bool
     ensures { result ≡ steps_left_out program.now }
 {
     any_state(program.parser.parse_states.as_slice())
@@ -400,9 +415,9 @@ fn steps_left_out(program: &RawProgram) -> bool
 /// Whether the program, of which these are the header types and the headers, has a form that is left out.
 #[tactic(auto, unfolding(crate::specs::LeftOut::has_left_out))]
 pub(crate) fn has_left_out(
-    types: &Index<HeaderType>,
-    headers: &Index<Header>,
-    program: &RawProgram,
+    types: &Index<HeaderType<'_>>,
+    headers: &Index<Header<'_>>,
+    program: &RawProgram<'_>,
 ) -> bool
     requires types { types.now ≡ program.now.header_types }
     requires headers { headers.now ≡ program.now.headers }

@@ -9,7 +9,7 @@ use bm_records::raw::{
 };
 use name_index::Index;
 
-fn fields_of(types: &Index<HeaderType>, header: &Header) -> usize
+fn fields_of(types: &Index<HeaderType<'_>>, header: &Header<'_>) -> usize
     ensures { result ≡ fields_of types.now header.now }
 {
     match left_out::type_of(types, header) {
@@ -19,7 +19,7 @@ fn fields_of(types: &Index<HeaderType>, header: &Header) -> usize
 }
 
 #[tactic(auto, using(bm_records::proofs::Together::exceeds_most))]
-fn has_more_fields(most: usize, types: &Index<HeaderType>, headers: &[Header]) -> bool
+fn has_more_fields(most: usize, types: &Index<HeaderType<'_>>, headers: &[Header<'_>]) -> bool
     ensures { result ≡ has_more_fields most types.now headers.now }
 {
     let mut room = most;
@@ -33,25 +33,25 @@ fn has_more_fields(most: usize, types: &Index<HeaderType>, headers: &[Header]) -
     false
 }
 
-fn action_exceeds(action: &Action) -> bool
+fn action_exceeds(action: &Action<'_>) -> bool
     ensures { result ≡ action_exceeds action.now }
 {
     action.runtime_data.len() > 8 || action.primitives.len() > 64
 }
 
-fn direct(counters: &[CounterArray]) -> usize
+fn direct(counters: &[CounterArray<'_>]) -> usize
     ensures { result ≡ count_by (λ counter. counter.is_direct) counters.now }
 {
     counters.iter().filter(|counter| counter.is_direct).count()
 }
 
-fn indirect(counters: &[CounterArray]) -> usize
+fn indirect(counters: &[CounterArray<'_>]) -> usize
     ensures { result ≡ count_by (λ counter. not counter.is_direct) counters.now }
 {
     counters.iter().filter(|counter| !counter.is_direct).count()
 }
 
-fn counters_exceed(counters: &[CounterArray]) -> bool
+fn counters_exceed(counters: &[CounterArray<'_>]) -> bool
     ensures { result ≡ counters_exceed counters.now }
 {
     direct(counters) > 128 || indirect(counters) > 128
@@ -66,13 +66,13 @@ fn together_exceed(most: usize, first: usize, second: usize) -> bool
     second > most - first
 }
 
-fn keys_exceed(tables: &[Table]) -> bool
+fn keys_exceed(tables: &[Table<'_>]) -> bool
     ensures { result ≡ list_any (λ table. nat_lt 16 (length table.key)) tables.now }
 {
     tables.iter().any(|table| table.key.len() > 16)
 }
 
-fn pipelines_exceed(pipelines: &Pipelines) -> bool
+fn pipelines_exceed(pipelines: &Pipelines<'_>) -> bool
     ensures { result ≡ pipelines_exceed pipelines.now }
 {
     let ingress = &pipelines.ingress;
@@ -87,32 +87,32 @@ fn pipelines_exceed(pipelines: &Pipelines) -> bool
         || keys_exceed(egress.tables.as_slice())
 }
 
-fn headers_exceed(types: &Index<HeaderType>, program: &RawProgram) -> bool
+fn headers_exceed(types: &Index<HeaderType<'_>>, program: &RawProgram<'_>) -> bool
     requires { types.now ≡ program.now.header_types }
     ensures { result ≡ headers_exceed program.now }
 {
     program.headers.len() > 128 || has_more_fields(1024, types, program.headers.as_slice())
 }
 
-fn elements_exceed(lists: &[LearnList]) -> bool
+fn elements_exceed(lists: &[LearnList<'_>]) -> bool
     ensures { result ≡ list_any (λ list. nat_lt 128 (length list.elements)) lists.now }
 {
     lists.iter().any(|list| list.elements.len() > 128)
 }
 
-fn actions_exceed(actions: &[Action]) -> bool
+fn actions_exceed(actions: &[Action<'_>]) -> bool
     ensures { result ≡ list_any action_exceeds actions.now }
 {
     actions.iter().any(|action| action_exceeds(action))
 }
 
-fn learn_lists_exceed(lists: &[LearnList]) -> bool
+fn learn_lists_exceed(lists: &[LearnList<'_>]) -> bool
     ensures { result ≡ learn_lists_exceed lists.now }
 {
     lists.len() > 128 || elements_exceed(lists)
 }
 
-fn objects_exceed(program: &RawProgram) -> bool
+fn objects_exceed(program: &RawProgram<'_>) -> bool
     ensures { result ≡ objects_exceed program.now }
 {
     program.actions.len() > 512
@@ -122,7 +122,7 @@ fn objects_exceed(program: &RawProgram) -> bool
 
 /// Whether the program, of which these are the header types, exceeds a limit.
 #[tactic(auto, unfolding(crate::specs::Limits::exceeds))]
-pub(crate) fn exceeds(types: &Index<HeaderType>, program: &RawProgram) -> bool
+pub(crate) fn exceeds(types: &Index<HeaderType<'_>>, program: &RawProgram<'_>) -> bool
     requires { types.now ≡ program.now.header_types }
     ensures { result ≡ exceeds program.now }
 {

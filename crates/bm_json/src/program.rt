@@ -1,6 +1,6 @@
 //! A program, and the bytes that it stands in.
 ghost use Rattle.std.specs.Prelude.{◌≡◌, codes, IfOk};
-ghost use Rattle.serde_json.specs.View.{view};
+ghost use Rattle.json_tree.specs.View.{view};
 ghost use Rattle.json_shapes.specs.Shapes.{required, list_or_empty, list_unless_absent};
 ghost use Rattle.bm_records.specs.Objects.{error_of};
 ghost use Rattle.bm_json.specs.Program.{lists_state, lists_stacks, lists_left_out, program_of, json_in, program_in, flaw_of, Answers, Finds, IsOfRule};
@@ -10,15 +10,15 @@ use crate::{left_out, limits};
 use bm_records::raw::{Deparser, ErrorNumber, Parser, RawProgram};
 use json_shapes::arrays::Only;
 use json_shapes::shapes::{self, FromJson};
+use json_tree::{Element, Tree};
 use list_types::{List, NoMemory, Refusal, Text};
 use name_index::Index;
-use serde_json::Value;
 use std::alloc::Global;
 
 /// The greatest device configuration, in bytes.
 const LONGEST: usize = 4_194_304;
 
-fn lists_state(value: &Value) -> bool
+fn lists_state(value: &Element<'_>) -> bool
     ensures { result ≡ lists_state (view value.now) }
 {
     shapes::has_items(value, "register_arrays")
@@ -26,7 +26,7 @@ fn lists_state(value: &Value) -> bool
         || shapes::has_items(value, "extern_instances")
 }
 
-fn lists_stacks(value: &Value) -> bool
+fn lists_stacks(value: &Element<'_>) -> bool
     ensures { result ≡ lists_stacks (view value.now) }
 {
     shapes::has_items(value, "parse_vsets")
@@ -37,7 +37,7 @@ fn lists_stacks(value: &Value) -> bool
 }
 
 #[tactic(auto, unfolding(crate::specs::Program::lists_left_out))]
-fn lists_left_out(value: &Value) -> bool
+fn lists_left_out(value: &Element<'_>) -> bool
     ensures { result ≡ lists_left_out (view value.now) }
 {
     lists_state(value) || lists_stacks(value)
@@ -56,7 +56,11 @@ fn at_rule(alloc: Global, rule: u8, place: &str) -> Refusal<JsonFault>
 }
 
 #[tactic(auto, using(crate::proofs::Refusals::refuses))]
-fn member<T: FromJson>(alloc: Global, value: &Value, name: &str) -> Result<T, Refusal<JsonFault>>
+fn member<'a, T: FromJson<'a>>(
+    alloc: Global,
+    value: &Element<'a>,
+    name: &str,
+) -> Result<T, Refusal<JsonFault>>
     ensures { Finds (λ x. x) result (required T.shape name.now (view value.now)) }
 {
     match shapes::required(alloc, value, name) {
@@ -67,9 +71,9 @@ fn member<T: FromJson>(alloc: Global, value: &Value, name: &str) -> Result<T, Re
 }
 
 #[tactic(auto, using(crate::proofs::Refusals::refuses))]
-fn list<T: FromJson>(
+fn list<'a, T: FromJson<'a>>(
     alloc: Global,
-    value: &Value,
+    value: &Element<'a>,
     name: &str,
 ) -> Result<List<T>, Refusal<JsonFault>>
     ensures { Finds (λ x. x) result (list_or_empty T.shape name.now (view value.now)) }
@@ -82,7 +86,10 @@ fn list<T: FromJson>(
 }
 
 #[tactic(auto, using(crate::proofs::Refusals::refuses))]
-fn errors(alloc: Global, value: &Value) -> Result<List<ErrorNumber>, Refusal<JsonFault>>
+fn errors<'a>(
+    alloc: Global,
+    value: &Element<'a>,
+) -> Result<List<ErrorNumber<'a>>, Refusal<JsonFault>>
     ensures { Finds (λ x. x) result (list_unless_absent error_of (codes "errors") (view value.now)) }
 {
     match shapes::list_unless_absent(alloc, value, "errors") {
@@ -93,14 +100,14 @@ fn errors(alloc: Global, value: &Value) -> Result<List<ErrorNumber>, Refusal<Jso
 }
 
 #[tactic(auto, unfolding(crate::specs::Program::program_of))]
-fn program_of(alloc: Global, value: &Value) -> Result<RawProgram, Refusal<JsonFault>>
+fn program_of<'a>(alloc: Global, value: &Element<'a>) -> Result<RawProgram<'a>, Refusal<JsonFault>>
     ensures { Finds (λ x. x) result (program_of (view value.now)) }
 {
     let header_types = member(alloc, value, "header_types")?;
     let headers = member(alloc, value, "headers")?;
     let errors = errors(alloc, value)?;
-    let parser: Only<Parser> = member(alloc, value, "parsers")?;
-    let deparser: Only<Deparser> = member(alloc, value, "deparsers")?;
+    let parser: Only<Parser<'a>> = member(alloc, value, "parsers")?;
+    let deparser: Only<Deparser<'a>> = member(alloc, value, "deparsers")?;
     let counter_arrays = list(alloc, value, "counter_arrays")?;
     let calculations = list(alloc, value, "calculations")?;
     let checksums = list(alloc, value, "checksums")?;
@@ -125,36 +132,35 @@ fn program_of(alloc: Global, value: &Value) -> Result<RawProgram, Refusal<JsonFa
 }
 
 #[tactic(auto, using(crate::proofs::Refusals::refuses))]
-fn json_in(alloc: Global, bytes: &[u8]) -> Result<Value, Refusal<JsonFault>>
+fn json_in(alloc: Global, bytes: &[u8]) -> Result<Tree, Refusal<JsonFault>>
     ensures { Finds view result (json_in bytes.now) }
 {
     match str::from_utf8(bytes) {
         Err(_) => Err(at_rule(alloc, 1, "UTF-8")),
-        Ok(text) => match Value::from_str(alloc, text) {
-            Ok(value) => Ok(value),
-            Err(error) => {
-                if error.is_memory() {
-                    Err(Refusal::NoMemory)
-                } else {
-                    Err(at_rule(alloc, 1, "JSON"))
-                }
-            }
+        Ok(text) => match Tree::read(alloc, text) {
+            Ok(tree) => Ok(tree),
+            Err(Refusal::NoMemory) => Err(Refusal::NoMemory),
+            Err(Refusal::For(_)) => Err(at_rule(alloc, 1, "JSON")),
         },
     }
 }
 
 #[tactic(auto, unfolding(crate::specs::Program::program_in), using(crate::proofs::Refusals::refuses))]
-fn program_in(alloc: Global, bytes: &[u8]) -> Result<RawProgram, Refusal<JsonFault>>
+fn program_in<'a>(
+    alloc: Global,
+    bytes: &[u8],
+    place: &'a mut Option<Tree>,
+) -> Result<RawProgram<'a>, Refusal<JsonFault>>
     ensures { Finds (λ x. x) result (program_in bytes.now) }
 {
     if bytes.len() > LONGEST {
         return Err(at_rule(alloc, 1, "length"));
     }
-    let value = json_in(alloc, bytes)?;
-    program_of(alloc, &value)
+    let tree: &'a Tree = place.insert(json_in(alloc, bytes)?);
+    program_of(alloc, &tree.root())
 }
 
-fn flaw_of(alloc: Global, program: &RawProgram) -> Result<Option<u8>, NoMemory>
+fn flaw_of(alloc: Global, program: &RawProgram<'_>) -> Result<Option<u8>, NoMemory>
     ensures { IfOk result (λ rule. rule ≡ flaw_of program.now) }
 {
     let types = Index::of(alloc, program.header_types.as_slice())?;
@@ -169,12 +175,17 @@ fn flaw_of(alloc: Global, program: &RawProgram) -> Result<Option<u8>, NoMemory>
 }
 
 /// The raw records of a program in BMv2's JSON form, or the first rule of L1 to L3 that it breaks: it
-/// is not JSON of the profile's shapes, it has a form that is left out, or it exceeds a limit.
+/// is not JSON of the profile's shapes, it has a form that is left out, or it exceeds a limit. The names in the records are
+/// those of the tree that is put at the place.
 #[tactic(auto, using(crate::proofs::Refusals::breaks, crate::proofs::Refusals::is_first))]
-pub fn read_json(alloc: Global, bytes: &[u8]) -> Result<RawProgram, Refusal<JsonFault>>
+pub fn read_json<'a>(
+    alloc: Global,
+    bytes: &[u8],
+    place: &'a mut Option<Tree>,
+) -> Result<RawProgram<'a>, Refusal<JsonFault>>
     ensures { Answers bytes.now result }
 {
-    let program = program_in(alloc, bytes)?;
+    let program = program_in(alloc, bytes, place)?;
     match flaw_of(alloc, &program)? {
         None => Ok(program),
         Some(rule) => Err(at_rule(alloc, rule, "program")),

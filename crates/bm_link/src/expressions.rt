@@ -12,7 +12,8 @@ use bm_records::raw::{
     BinaryOperator, Expression, FieldName, Node, Part, RawLiteral, UnaryOperator,
 };
 use bm_rules::fields::is_validity;
-use list_types::{NoMemory, Text};
+use list_types::NoMemory;
+use name_index::Name;
 use std::alloc::Global;
 
 fn number(alloc: Global, node: NumberNode) -> Result<Box<Number>, NoMemory>
@@ -48,7 +49,7 @@ fn literal(value: &RawLiteral) -> NumberNode
     }
 }
 
-fn validity(fields: &Fields, header: &Part<Text>) -> TruthNode
+fn validity(fields: &Fields, header: &Part<Name>) -> TruthNode
     ensures { truth_of_node result ≡ of_part (to.Constant false) (λ name. to.IsValid (header_at fields.now.raw.now name)) header.now }
 {
     match header {

@@ -1,7 +1,7 @@
 //! Headers and fields by their places.
-ghost use Rattle.std.specs.Prelude.{◌≡◌, ◌≤◌, ◌<◌, ◌+◌, ◌^◌, length, is_some, IfOk};
-ghost use Rattle.bm_rules.specs.Names.{named};
-ghost use Rattle.bm_rules.specs.Fields.{fields_of, field_bits, field_by_names};
+ghost use Rattle.std.specs.Prelude.{◌≡◌, ◌≤◌, ◌<◌, ◌+◌, ◌^◌, length, is_some, option_copied, IfOk, IfSome};
+ghost use Rattle.bm_rules.specs.Names.{named, place_of as names_place};
+ghost use Rattle.bm_rules.specs.Fields.{fields_in, type_of, field_bits, field_by_names};
 ghost use Rattle.link_spec.specs.Fields.{at, header_at, fields_named, fields_before, header_place, field_by, field_at, field_ref, target_at, part_ref};
 ghost use Rattle.bm_link.specs.Places.{AreFirsts};
 
@@ -11,16 +11,16 @@ use bm_records::raw::{FieldName, Header, HeaderType, Part, RawField, RawProgram,
 use bm_rules::fields::is_validity;
 use bm_rules::names;
 use bm_values::literals::width_bits;
-use list_types::{NoMemory, Text};
-use name_index::Index;
+use list_types::NoMemory;
+use name_index::{Index, Name};
 use std::alloc::Global;
 
 /// The headers of a program and their types, by their names.
 #[derive(Drop)]
-pub(crate) struct Fields<'a> {
-    pub raw: &'a RawProgram,
-    pub types: Index<'a, HeaderType>,
-    pub headers: Index<'a, Header>,
+pub(crate) struct Fields<'p, 'a> {
+    pub raw: &'p RawProgram<'a>,
+    pub types: Index<'p, HeaderType<'a>>,
+    pub headers: Index<'p, Header<'a>>,
     /// How many fields stand before each header, and all.
     pub firsts: Vec<usize>,
     ghost of_types: { types ≡ raw.now.header_types },
@@ -29,18 +29,44 @@ pub(crate) struct Fields<'a> {
     ghost room: { fields_before raw.now (length raw.now.headers) < 2 ^ 64 },
 }
 
-/// The fields of a header.
-pub(crate) fn fields_of<'a>(
-    raw: &'a RawProgram,
-    types: &Index<'a, HeaderType>,
+/// The type of a header.
+pub(crate) fn type_of<'p, 'a>(
+    raw: &'p RawProgram<'a>,
+    types: &Index<'p, HeaderType<'a>>,
     header: &Header,
-) -> &'a [TypeField]
+) -> Option<&'p HeaderType<'a>>
     requires { types.now ≡ raw.now.header_types }
-    ensures { result.now ≡ fields_of raw.now header.now }
+    ensures { option_copied result ≡ type_of raw.now header.now }
 {
-    match types.named(&header.header_type) {
-        Some(header_type) => header_type.fields.as_slice(),
-        None => &[],
+    types.named(&header.header_type)
+}
+
+/// How many fields a type has, if there is one.
+pub(crate) fn count_of(found: Option<&HeaderType>) -> usize
+    ensures { result ≡ length (fields_in (option_copied found.entry)) }
+{
+    match found {
+        Some(header_type) => header_type.fields.len(),
+        None => 0,
+    }
+}
+
+fn field_in<'p, 'a>(found: Option<&'p HeaderType<'a>>, name: &str) -> Option<&'p TypeField<'a>>
+    ensures { option_copied result ≡ named (λ field. field.name) name.now (fields_in (option_copied found.entry)) }
+{
+    match found {
+        Some(header_type) => names::named(header_type.fields.as_slice(), name),
+        None => None,
+    }
+}
+
+fn place_in(found: Option<&HeaderType>, name: &str) -> Option<usize>
+    ensures place { result ≡ names_place (λ field. field.name) name.now (fields_in (option_copied found.entry)) }
+    ensures inside { IfSome result (λ place. place < length (fields_in (option_copied found.entry))) }
+{
+    match found {
+        Some(header_type) => names::place_of(header_type.fields.as_slice(), name),
+        None => None,
     }
 }
 
@@ -51,10 +77,10 @@ fn room(raw: &RawProgram, all: usize)
 {}
 
 // Fields that no number counts have no memory either.
-fn firsts_of<'a>(
+fn firsts_of<'p, 'a>(
     alloc: Global,
-    raw: &'a RawProgram,
-    types: &Index<'a, HeaderType>,
+    raw: &'p RawProgram<'a>,
+    types: &Index<'p, HeaderType<'a>>,
 ) -> Result<Vec<usize>, NoMemory>
     requires { types.now ≡ raw.now.header_types }
     ensures counted { IfOk result (λ firsts. AreFirsts raw.now (length raw.now.headers) firsts.items) }
@@ -64,7 +90,7 @@ fn firsts_of<'a>(
     let mut first: usize = 0;
     firsts.push(first)?;
     for header in raw.headers.as_slice() {
-        let count = fields_of(raw, types, header).len();
+        let count = count_of(type_of(raw, types, header));
         first = first.checked_add(count).ok_or(NoMemory)?;
         firsts.push(first)?;
     }
@@ -72,8 +98,8 @@ fn firsts_of<'a>(
     Ok(firsts)
 }
 
-impl<'a> Fields<'a> {
-    pub(crate) fn of(alloc: Global, raw: &'a RawProgram) -> Result<Fields<'a>, NoMemory>
+impl<'p, 'a> Fields<'p, 'a> {
+    pub(crate) fn of(alloc: Global, raw: &'p RawProgram<'a>) -> Result<Fields<'p, 'a>, NoMemory>
         ensures { IfOk result (λ fields. fields.raw.now ≡ raw.now) }
     {
         let types = Index::of(alloc, raw.header_types.as_slice())?;
@@ -99,20 +125,20 @@ pub(crate) fn header_at(fields: &Fields, name: &str) -> usize
     }
 }
 
-/// The place of the header that a text names.
-pub(crate) fn header_of(fields: &Fields, name: &Text) -> usize
+/// The place of the header of a name in the program.
+pub(crate) fn header_of(fields: &Fields, name: &Name) -> usize
     ensures { result ≡ header_at fields.now.raw.now name.now }
 {
     header_at(fields, name.as_str())
 }
 
-/// The fields of the header of a name.
-fn fields_named<'a>(fields: &Fields<'a>, name: &str) -> &'a [TypeField]
-    ensures { result.now ≡ fields_named fields.now.raw.now name.now }
+/// The type of the header of a name.
+fn type_named<'p, 'a>(fields: &Fields<'p, 'a>, name: &str) -> Option<&'p HeaderType<'a>>
+    ensures { fields_in (option_copied result) ≡ fields_named fields.now.raw.now name.now }
 {
     match fields.headers.named_at(name) {
-        Some(header) => fields_of(fields.raw, &fields.types, header),
-        None => &[],
+        Some(header) => type_of(fields.raw, &fields.types, header),
+        None => None,
     }
 }
 
@@ -124,21 +150,21 @@ pub(crate) fn header_place(fields: &Fields, name: &str) -> HeaderPlace
     HeaderPlace {
         header,
         first: fields.firsts[header],
-        count: fields_named(fields, name).len(),
+        count: count_of(type_named(fields, name)),
     }
 }
 
-/// The same of a header that a text names.
-pub(crate) fn place_of(fields: &Fields, name: &Text) -> HeaderPlace
+/// The same of a name in the program.
+pub(crate) fn place_of(fields: &Fields, name: &Name) -> HeaderPlace
     ensures { result ≡ header_place fields.now.raw.now name.now }
 {
     header_place(fields, name.as_str())
 }
 
-fn bits_among(fields: &[TypeField], name: &str) -> u32
-    ensures { result ≡ field_bits (named (λ field. field.name) name.now fields.now) }
+fn bits_of(field: Option<&TypeField>) -> u32
+    ensures { result ≡ field_bits (option_copied field.entry) }
 {
-    match names::named(fields, name) {
+    match field {
         Some(field) => width_bits(&field.width),
         None => 0,
     }
@@ -157,7 +183,7 @@ fn index_of(fields: &Fields, header: &str, field: &str) -> usize
     ensures { result ≡ fields_before fields.now.raw.now (header_at fields.now.raw.now header.now) + at (λ field. field.name) field.now (fields_named fields.now.raw.now header.now) }
 {
     let first = fields.firsts[header_at(fields, header)];
-    match names::place_of(fields_named(fields, header), field) {
+    match place_in(type_named(fields, header), field) {
         Some(place) => place_behind(fields, header, first, place),
         None => first,
     }
@@ -171,7 +197,7 @@ pub(crate) fn field_by(fields: &Fields, header: &str, field: &str) -> FieldPlace
     FieldPlace {
         index: index_of(fields, header, field),
         header: header_at(fields, header),
-        width: bits_among(fields_named(fields, header), field),
+        width: bits_of(field_in(type_named(fields, header), field)),
     }
 }
 
@@ -180,7 +206,7 @@ pub(crate) fn field_by(fields: &Fields, header: &str, field: &str) -> FieldPlace
 pub(crate) fn has_field(fields: &Fields, header: &str, field: &str) -> bool
     ensures { result ≡ is_some (field_by_names fields.now.raw.now header.now field.now) }
 {
-    names::named(fields_named(fields, header), field).is_some()
+    field_in(type_named(fields, header), field).is_some()
 }
 
 /// The place of the field of both names together.

@@ -1,12 +1,13 @@
 //! The headers of a program.
-ghost use Rattle.std.specs.Prelude.{◌≡◌, ◌+◌, ◌^◌, ◌<◌, ◌≤◌, length, map, take, slice_get, sum, IfOk, IfErr, OnOk};
+ghost use Rattle.std.specs.Prelude.{◌≡◌, ◌+◌, ◌^◌, ◌<◌, ◌≤◌, length, map, take, slice_get, sum, option_copied, IfOk, IfErr, OnOk};
+ghost use Rattle.bm_rules.specs.Fields.{fields_in};
 ghost use Rattle.bm_values.specs.Literals.{width_bits};
 ghost use Rattle.link_spec.specs.Fields.{header_of, headers_from, fields_before, standard_field, standard_metadata_of};
 
 use crate::fields::{self, Fields};
 use bm_expr::{FieldPlace, HeaderPlace};
 use bm_pipeline::headers::{Header, StandardMetadata};
-use bm_records::raw::{self, TypeField};
+use bm_records::raw::{self, HeaderType, TypeField};
 use bm_values::literals::width_bits;
 use list_types::{List, NoMemory};
 use std::alloc::Global;
@@ -34,6 +35,15 @@ fn bits_in(widths: &[u32]) -> Result<usize, NoMemory>
     Ok(bits)
 }
 
+fn widths_in(alloc: Global, found: Option<&HeaderType>) -> Result<List<u32>, NoMemory>
+    ensures { IfOk result (λ widths. widths ≡ map (λ field. width_bits field.width) (fields_in (option_copied found.entry))) }
+{
+    match found {
+        Some(header_type) => widths_of(alloc, header_type.fields.as_slice()),
+        None => Ok(List::new(alloc)),
+    }
+}
+
 fn header_of(
     alloc: Global,
     fields: &Fields,
@@ -43,14 +53,14 @@ fn header_of(
     requires { place < length fields.now.raw.now.headers }
     ensures { IfOk result (λ linked. linked ≡ header_of fields.now.raw.now place (fields_before fields.now.raw.now place) header.now) }
 {
-    let those = fields::fields_of(fields.raw, &fields.types, header);
-    let widths = widths_of(alloc, those)?;
+    let found = fields::type_of(fields.raw, &fields.types, header);
+    let widths = widths_in(alloc, found)?;
     let bits = bits_in(widths.as_slice())?;
     Ok(Header {
         place: HeaderPlace {
             header: place,
             first: fields.firsts[place],
-            count: those.len(),
+            count: fields::count_of(found),
         },
         metadata: header.metadata,
         widths,

@@ -7,10 +7,9 @@ ghost use Rattle.bm_link.specs.Sides.{side_of};
 use crate::sides::Side;
 use bm_pipeline::tables::{Next, Node};
 use bm_records::raw::NextTable;
-use list_types::Text;
-use name_index::Index;
+use name_index::{Index, Name};
 
-fn node_named(side: &Side, name: &Text) -> Option<Node>
+fn node_named(side: &Side, name: &Name) -> Option<Node>
     ensures { result ≡ node_named (side_of side.now) name.now }
 {
     if let Some(place) = side.tables.place(name) {
@@ -23,7 +22,7 @@ fn node_named(side: &Side, name: &Text) -> Option<Node>
 }
 
 /// The node of a name, where one is given.
-pub(crate) fn node_of(side: &Side, name: &Option<Text>) -> Option<Node>
+pub(crate) fn node_of(side: &Side, name: &Option<Name>) -> Option<Node>
     ensures { result ≡ node_of (side_of side.now) name.now }
 {
     match name {

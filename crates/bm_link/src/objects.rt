@@ -21,7 +21,8 @@ use bm_records::raw::{
 };
 use bm_rules::names;
 use bm_values::literals::width_bits;
-use list_types::{NoMemory, Text};
+use list_types::NoMemory;
+use name_index::Name;
 use std::alloc::Global;
 
 fn error_number(raw: &RawProgram, name: &str, other: u64) -> u64
@@ -44,7 +45,7 @@ pub(crate) fn errors_of(raw: &RawProgram) -> ErrorNumbers
     }
 }
 
-fn header_at(fields: &Fields, header: &Part<Text>) -> usize
+fn header_at(fields: &Fields, header: &Part<Name>) -> usize
     ensures { result ≡ of_part 0 (header_at fields.now.raw.now) header.now }
 {
     match header {
@@ -53,7 +54,7 @@ fn header_at(fields: &Fields, header: &Part<Text>) -> usize
     }
 }
 
-fn header_place(fields: &Fields, header: &Part<Text>) -> HeaderPlace
+fn header_place(fields: &Fields, header: &Part<Name>) -> HeaderPlace
     ensures { result ≡ header_place fields.now.raw.now (of_part [] (λ name. name) header.now) }
 {
     match header {
@@ -72,7 +73,7 @@ pub(crate) fn bits(literal: &RawLiteral) -> u128
     }
 }
 
-impl Link<FieldRef> for Part<FieldName> {
+impl<'a> Link<FieldRef> for Part<FieldName<'a>> {
     ghost meaning = { λ raw _. part_ref raw };
 
     fn link(&self, _: Global, scope: &Scope) -> Result<FieldRef, NoMemory> {
@@ -80,7 +81,7 @@ impl Link<FieldRef> for Part<FieldName> {
     }
 }
 
-impl Link<usize> for Text {
+impl<'a> Link<usize> for Name<'a> {
     ghost meaning = { λ raw _. header_at raw };
 
     fn link(&self, _: Global, scope: &Scope) -> Result<usize, NoMemory> {
@@ -88,7 +89,7 @@ impl Link<usize> for Text {
     }
 }
 
-impl Link<ParserOp> for raw::ParserOp {
+impl<'a> Link<ParserOp> for raw::ParserOp<'a> {
     ghost meaning = { λ raw _. parser_op_of raw };
 
     fn link(&self, alloc: Global, scope: &Scope) -> Result<ParserOp, NoMemory> {
@@ -126,7 +127,7 @@ fn test_of(value: &MatchValue, mask: &Option<RawLiteral>) -> KeyTest
     }
 }
 
-fn state_at(scope: &Scope, name: &Option<Text>) -> Option<usize>
+fn state_at(scope: &Scope, name: &Option<Name>) -> Option<usize>
     ensures { result ≡ option_and_then (state_at scope.now.fields.raw.now) name.now }
 {
     match name {
@@ -135,7 +136,7 @@ fn state_at(scope: &Scope, name: &Option<Text>) -> Option<usize>
     }
 }
 
-impl Link<Transition> for raw::Transition {
+impl<'a> Link<Transition> for raw::Transition<'a> {
     ghost meaning = { λ raw _. transition_of raw };
 
     fn link(&self, _: Global, scope: &Scope) -> Result<Transition, NoMemory> {
@@ -146,7 +147,7 @@ impl Link<Transition> for raw::Transition {
     }
 }
 
-impl Link<ParseState> for raw::ParseState {
+impl<'a> Link<ParseState> for raw::ParseState<'a> {
     ghost meaning = { λ raw _. state_of raw };
 
     fn link(&self, alloc: Global, scope: &Scope) -> Result<ParseState, NoMemory> {
@@ -169,7 +170,7 @@ pub(crate) fn parser_of(alloc: Global, scope: &Scope) -> Result<Parser, NoMemory
     })
 }
 
-fn counter_at(scope: &Scope, name: &Part<Text>) -> Option<usize>
+fn counter_at(scope: &Scope, name: &Part<Name>) -> Option<usize>
     ensures { result ≡ of_part None (counter_at scope.now.fields.raw.now scope.now.info.now) name.now }
 {
     let Part::Served(name) = name else {
@@ -204,7 +205,7 @@ fn list_at(scope: &Scope, name: &LearnListName) -> usize
     }
 }
 
-fn assign_header(fields: &Fields, target: &Part<Text>, source: &Part<Text>) -> Primitive
+fn assign_header(fields: &Fields, target: &Part<Name>, source: &Part<Name>) -> Primitive
     ensures { result ≡ primitives.AssignHeader (header_place fields.now.raw.now (of_part [] (λ name. name) target.now)) (header_place fields.now.raw.now (of_part [] (λ name. name) source.now)) }
 {
     let to = header_place(fields, target);
@@ -215,7 +216,7 @@ fn assign_header(fields: &Fields, target: &Part<Text>, source: &Part<Text>) -> P
     }
 }
 
-impl Link<Primitive> for raw::Primitive {
+impl<'a> Link<Primitive> for raw::Primitive<'a> {
     ghost meaning = { primitive_of };
 
     fn link(&self, alloc: Global, scope: &Scope) -> Result<Primitive, NoMemory> {
@@ -257,7 +258,7 @@ impl Link<u32> for Datum {
     }
 }
 
-impl Link<Action> for raw::Action {
+impl<'a> Link<Action> for raw::Action<'a> {
     ghost meaning = { action_of };
 
     fn link(&self, alloc: Global, scope: &Scope) -> Result<Action, NoMemory> {
@@ -268,7 +269,7 @@ impl Link<Action> for raw::Action {
     }
 }
 
-fn digest_of(scope: &Scope, name: &Text) -> Option<u32>
+fn digest_of(scope: &Scope, name: &Name) -> Option<u32>
     ensures { result ≡ option_map (λ digest. digest.preamble.id) (named (λ digest. digest.preamble.name) name.now scope.now.info.now.digests) }
 {
     match scope.digests.named(name) {
@@ -277,7 +278,7 @@ fn digest_of(scope: &Scope, name: &Text) -> Option<u32>
     }
 }
 
-impl Link<LearnList> for raw::LearnList {
+impl<'a> Link<LearnList> for raw::LearnList<'a> {
     ghost meaning = { learn_list_of };
 
     fn link(&self, alloc: Global, scope: &Scope) -> Result<LearnList, NoMemory> {
@@ -288,7 +289,7 @@ impl Link<LearnList> for raw::LearnList {
     }
 }
 
-impl Link<CalculationInput> for raw::CalculationInput {
+impl<'a> Link<CalculationInput> for raw::CalculationInput<'a> {
     ghost meaning = { λ raw _. input_of raw };
 
     fn link(&self, _: Global, scope: &Scope) -> Result<CalculationInput, NoMemory> {
@@ -305,7 +306,7 @@ impl Link<CalculationInput> for raw::CalculationInput {
     }
 }
 
-impl Link<Calculation> for raw::Calculation {
+impl<'a> Link<Calculation> for raw::Calculation<'a> {
     ghost meaning = { λ raw _. calculation_of raw };
 
     fn link(&self, alloc: Global, scope: &Scope) -> Result<Calculation, NoMemory> {
@@ -328,7 +329,7 @@ fn condition_of(
     }
 }
 
-impl Link<Checksum> for raw::Checksum {
+impl<'a> Link<Checksum> for raw::Checksum<'a> {
     ghost meaning = { λ raw _. checksum_of raw };
 
     fn link(&self, alloc: Global, scope: &Scope) -> Result<Checksum, NoMemory> {

@@ -52,7 +52,8 @@ fn refusal_of(refusal: Refusal<JsonFault>) -> Refusal<LinkFault>
 pub fn link(alloc: Global, info: &P4Info, json: &[u8]) -> Result<Pipeline, Refusal<LinkFault>>
     ensures { Links info.now json.now result }
 {
-    match read_json(alloc, json) {
+    let mut place = None;
+    match read_json(alloc, json, &mut place) {
         Ok(raw) => link_raw(alloc, &raw, info),
         Err(refusal) => Err(refusal_of(refusal)),
     }

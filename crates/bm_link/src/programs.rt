@@ -15,13 +15,13 @@ use list_types::{List, NoMemory};
 use p4info_model::P4Info;
 use std::alloc::Global;
 
-fn ingress<'a>(alloc: Global, raw: &'a RawProgram) -> Result<Side<'a>, NoMemory>
+fn ingress<'p, 'a>(alloc: Global, raw: &'p RawProgram<'a>) -> Result<Side<'p, 'a>, NoMemory>
     ensures { IfOk result (λ side. side_of side ≡ ingress raw.now) }
 {
     Side::of(alloc, &raw.pipelines.ingress, &[], &[])
 }
 
-fn egress<'a>(alloc: Global, raw: &'a RawProgram) -> Result<Side<'a>, NoMemory>
+fn egress<'p, 'a>(alloc: Global, raw: &'p RawProgram<'a>) -> Result<Side<'p, 'a>, NoMemory>
     ensures { IfOk result (λ side. side_of side ≡ egress raw.now) }
 {
     let ingress = &raw.pipelines.ingress;

@@ -17,18 +17,18 @@ use std::collections::BTreeMap;
 
 /// A program and its P4Info, with objects found by their names.
 #[derive(Drop)]
-pub(crate) struct Scope<'a> {
-    pub info: &'a P4Info,
-    pub fields: Fields<'a>,
-    pub states: Index<'a, ParseState>,
-    pub calculations: Index<'a, Calculation>,
-    pub learn_lists: Index<'a, LearnList>,
-    pub counter_arrays: Index<'a, CounterArray>,
-    pub counters: Index<'a, info::Counter>,
-    pub digests: Index<'a, info::Digest>,
-    pub tables: Index<'a, info::Table>,
-    pub ingress_profiles: Index<'a, ActionProfile>,
-    pub egress_profiles: Index<'a, ActionProfile>,
+pub(crate) struct Scope<'p, 'a> {
+    pub info: &'p P4Info,
+    pub fields: Fields<'p, 'a>,
+    pub states: Index<'p, ParseState<'a>>,
+    pub calculations: Index<'p, Calculation<'a>>,
+    pub learn_lists: Index<'p, LearnList<'a>>,
+    pub counter_arrays: Index<'p, CounterArray<'a>>,
+    pub counters: Index<'p, info::Counter>,
+    pub digests: Index<'p, info::Digest>,
+    pub tables: Index<'p, info::Table>,
+    pub ingress_profiles: Index<'p, ActionProfile<'a>>,
+    pub egress_profiles: Index<'p, ActionProfile<'a>>,
     /// The first place of each id among the actions.
     pub action_places: BTreeMap<u64, usize>,
     ghost of_states: { states ≡ fields.raw.now.parser.parse_states },
@@ -69,12 +69,12 @@ fn places_of(alloc: Global, actions: &[Action]) -> Result<BTreeMap<u64, usize>, 
     Ok(places)
 }
 
-impl<'a> Scope<'a> {
+impl<'p, 'a> Scope<'p, 'a> {
     pub(crate) fn of(
         alloc: Global,
-        raw: &'a RawProgram,
-        info: &'a P4Info,
-    ) -> Result<Scope<'a>, NoMemory>
+        raw: &'p RawProgram<'a>,
+        info: &'p P4Info,
+    ) -> Result<Scope<'p, 'a>, NoMemory>
         ensures program { IfOk result (λ scope. scope.fields.raw.now ≡ raw.now) }
         ensures info { IfOk result (λ scope. scope.info.now ≡ info.now) }
     {

@@ -8,10 +8,10 @@ use std::alloc::Global;
 
 /// A pipeline, with its nodes found by their names.
 #[derive(Drop)]
-pub(crate) struct Side<'a> {
-    pub pipeline: &'a Pipeline,
-    pub tables: Index<'a, Table>,
-    pub conditionals: Index<'a, Conditional>,
+pub(crate) struct Side<'p, 'a> {
+    pub pipeline: &'p Pipeline<'a>,
+    pub tables: Index<'p, Table<'a>>,
+    pub conditionals: Index<'p, Conditional<'a>>,
     /// How many tables stand before its own.
     pub tables_before: usize,
     /// How many conditionals stand before its own.
@@ -22,14 +22,14 @@ pub(crate) struct Side<'a> {
     ghost conditionals_fit: { conditionals_before + length pipeline.now.conditionals < 2 ^ 64 },
 }
 
-impl<'a> Side<'a> {
+impl<'p, 'a> Side<'p, 'a> {
     /// A pipeline behind the tables and conditionals of another.
     pub(crate) fn of(
         alloc: Global,
-        pipeline: &'a Pipeline,
+        pipeline: &'p Pipeline<'a>,
         tables: &[Table],
         conditionals: &[Conditional],
-    ) -> Result<Side<'a>, NoMemory>
+    ) -> Result<Side<'p, 'a>, NoMemory>
         ensures pipeline { IfOk result (λ side. side.pipeline.now ≡ pipeline.now) }
         ensures tables { IfOk result (λ side. side.tables_before ≡ length tables.now) }
         ensures conditionals { IfOk result (λ side. side.conditionals_before ≡ length conditionals.now) }

@@ -21,8 +21,8 @@ use crate::{expressions, fields};
 use bm_pipeline::headers::FieldRef;
 use bm_pipeline::tables::{Conditional, DefaultEntry, Next, Table, TableAction};
 use bm_records::raw::{self, ActionProfile, KeyField, NextTable, RawLiteral, Selector};
-use list_types::{List, NoMemory, Text};
-use name_index::{Index, put_first};
+use list_types::{List, NoMemory};
+use name_index::{Index, Name, put_first};
 use p4_types::info::{self, ActionRef};
 use p4_types::keys::{Arguments, PARAM_LIMIT};
 use p4info_model::P4Info;
@@ -77,7 +77,7 @@ fn action_place(scope: &Scope, id: u64) -> usize
     scope.action_places.get(&id).copied().unwrap_or(0)
 }
 
-fn name_of<'a>(action: Option<&'a raw::Action>) -> &'a str
+fn name_of<'p, 'a>(action: Option<&'p raw::Action<'a>>) -> &'a str
     ensures { result.now ≡ unwrap_or (option_map (λ action. action.name) (option_copied action.entry)) [] }
 {
     match action {
@@ -86,11 +86,11 @@ fn name_of<'a>(action: Option<&'a raw::Action>) -> &'a str
     }
 }
 
-fn action_at<'a>(
+fn action_at<'p, 'a>(
     places: &BTreeMap<u64, usize>,
-    actions: &'a [raw::Action],
+    actions: &'p [raw::Action<'a>],
     id: u64,
-) -> Option<&'a raw::Action>
+) -> Option<&'p raw::Action<'a>>
     requires { ArePlaces (λ action. action.id) actions.now places.now }
     ensures { option_copied result ≡ find (λ action. action.id == id) actions.now }
 {
@@ -100,20 +100,20 @@ fn action_at<'a>(
     }
 }
 
-fn action_name<'a>(scope: &Scope<'a>, id: u64) -> &'a str
+fn action_name<'a>(scope: &Scope<'_, 'a>, id: u64) -> &'a str
     ensures { result.now ≡ action_name scope.now.fields.raw.now id }
 {
     let actions = scope.fields.raw.actions.as_slice();
     name_of(action_at(&scope.action_places, actions, id))
 }
 
-fn is_among(names: &[Text], name: &str) -> bool
+fn is_among(names: &[Name], name: &str) -> bool
     ensures { result ≡ is_among names.now name.now }
 {
     names.iter().any(|other| other.as_str() == name)
 }
 
-fn next_after(side: &Side, nexts: &Index<NextTable>, names: &[Text], name: &str) -> Next
+fn next_after(side: &Side, nexts: &Index<NextTable>, names: &[Name], name: &str) -> Next
     ensures { result ≡ (if is_among names.now name.now then next_by (side_of side.now) (named (λ next. next.outcome) name.now nexts.now) else following.NotNamed) }
 {
     if is_among(names, name) {
@@ -259,7 +259,7 @@ fn selector_in(
 }
 
 #[tactic(auto, using(bm_rules::proofs::Laid::find_in_both))]
-fn profile_named<'a>(scope: &Scope<'a>, name: &Text) -> Option<&'a ActionProfile>
+fn profile_named<'p, 'a>(scope: &Scope<'p, 'a>, name: &Name) -> Option<&'p ActionProfile<'a>>
     ensures { option_copied result ≡ named (λ profile. profile.name) name.now (profiles scope.now.fields.raw.now) }
 {
     match scope.ingress_profiles.named(name) {
@@ -271,7 +271,7 @@ fn profile_named<'a>(scope: &Scope<'a>, name: &Text) -> Option<&'a ActionProfile
 fn selector_of(
     alloc: Global,
     scope: &Scope,
-    profile: &Option<Text>,
+    profile: &Option<Name>,
 ) -> Result<List<FieldRef>, NoMemory>
     ensures { IfOk result (λ fields. fields ≡ selector_of scope.now.fields.raw.now profile.now) }
 {
@@ -284,7 +284,7 @@ fn selector_of(
     }
 }
 
-impl Link<FieldRef> for KeyField {
+impl<'a> Link<FieldRef> for KeyField<'a> {
     ghost meaning = { λ raw _ key. field_ref raw key.target };
 
     fn link(&self, _: Global, scope: &Scope) -> Result<FieldRef, NoMemory> {

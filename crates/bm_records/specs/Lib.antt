@@ -2,4 +2,5 @@ pub mod Operations
 pub mod Primitives
 pub mod Parsers
 pub mod Objects
+pub mod Members
 pub mod Pipelines

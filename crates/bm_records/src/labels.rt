@@ -5,7 +5,7 @@ use crate::raw::{
 };
 use name_index::Labelled;
 
-impl Labelled for ActionProfile {
+impl<'a> Labelled for ActionProfile<'a> {
     ghost label = { λ x. x.name };
 
     fn name(&self) -> &str {
@@ -13,7 +13,7 @@ impl Labelled for ActionProfile {
     }
 }
 
-impl Labelled for Calculation {
+impl<'a> Labelled for Calculation<'a> {
     ghost label = { λ x. x.name };
 
     fn name(&self) -> &str {
@@ -21,7 +21,7 @@ impl Labelled for Calculation {
     }
 }
 
-impl Labelled for Checksum {
+impl<'a> Labelled for Checksum<'a> {
     ghost label = { λ x. x.name };
 
     fn name(&self) -> &str {
@@ -29,7 +29,7 @@ impl Labelled for Checksum {
     }
 }
 
-impl Labelled for Conditional {
+impl<'a> Labelled for Conditional<'a> {
     ghost label = { λ x. x.name };
 
     fn name(&self) -> &str {
@@ -37,7 +37,7 @@ impl Labelled for Conditional {
     }
 }
 
-impl Labelled for CounterArray {
+impl<'a> Labelled for CounterArray<'a> {
     ghost label = { λ x. x.name };
 
     fn name(&self) -> &str {
@@ -45,7 +45,7 @@ impl Labelled for CounterArray {
     }
 }
 
-impl Labelled for ErrorNumber {
+impl<'a> Labelled for ErrorNumber<'a> {
     ghost label = { λ x. x.name };
 
     fn name(&self) -> &str {
@@ -53,7 +53,7 @@ impl Labelled for ErrorNumber {
     }
 }
 
-impl Labelled for Header {
+impl<'a> Labelled for Header<'a> {
     ghost label = { λ x. x.name };
 
     fn name(&self) -> &str {
@@ -61,7 +61,7 @@ impl Labelled for Header {
     }
 }
 
-impl Labelled for HeaderType {
+impl<'a> Labelled for HeaderType<'a> {
     ghost label = { λ x. x.name };
 
     fn name(&self) -> &str {
@@ -69,7 +69,7 @@ impl Labelled for HeaderType {
     }
 }
 
-impl Labelled for LearnList {
+impl<'a> Labelled for LearnList<'a> {
     ghost label = { λ x. x.name };
 
     fn name(&self) -> &str {
@@ -77,7 +77,7 @@ impl Labelled for LearnList {
     }
 }
 
-impl Labelled for ParseState {
+impl<'a> Labelled for ParseState<'a> {
     ghost label = { λ x. x.name };
 
     fn name(&self) -> &str {
@@ -85,7 +85,7 @@ impl Labelled for ParseState {
     }
 }
 
-impl Labelled for Table {
+impl<'a> Labelled for Table<'a> {
     ghost label = { λ x. x.name };
 
     fn name(&self) -> &str {
@@ -93,7 +93,7 @@ impl Labelled for Table {
     }
 }
 
-impl Labelled for TypeField {
+impl<'a> Labelled for TypeField<'a> {
     ghost label = { λ x. x.name };
 
     fn name(&self) -> &str {
@@ -101,7 +101,7 @@ impl Labelled for TypeField {
     }
 }
 
-impl Labelled for NextTable {
+impl<'a> Labelled for NextTable<'a> {
     ghost label = { λ x. x.outcome };
 
     fn name(&self) -> &str {

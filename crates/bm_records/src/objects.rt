@@ -1,6 +1,6 @@
 //! Headers, errors, counters, calculations, checksums and digests.
 ghost use Rattle.std.specs.Prelude.{◌≡◌};
-ghost use Rattle.serde_json.specs.View.{view};
+ghost use Rattle.json_tree.specs.View.{view};
 ghost use Rattle.json_shapes.specs.Shapes.{Reads};
 ghost use Rattle.bm_records.specs.Objects.{width_with, sign_by, type_field_of, header_type_of, header_of, error_of, size_by, counter_of, input_literal, input_by, input_of, calculation_of, checksum_of, learn_list_of};
 
@@ -13,8 +13,8 @@ use bm_values::raw::FieldWidth;
 use bm_values::values;
 use json_shapes::shapes::{self, FromJson};
 use json_shapes::{OtherShape, arrays};
+use json_tree::Element;
 use list_types::Refusal;
-use serde_json::Value;
 use std::alloc::Global;
 
 fn width_with(signed: bool, width: RawWidth) -> RawWidth
@@ -23,7 +23,7 @@ fn width_with(signed: bool, width: RawWidth) -> RawWidth
     if signed { Part::LeftOut } else { width }
 }
 
-fn sign_by(alloc: Global, count: usize, value: &Value) -> Result<bool, Refusal<OtherShape>>
+fn sign_by(alloc: Global, count: usize, value: &Element<'_>) -> Result<bool, Refusal<OtherShape>>
     ensures { Reads result (sign_by count (view value.now)) }
 {
     if count == 3 {
@@ -33,11 +33,11 @@ fn sign_by(alloc: Global, count: usize, value: &Value) -> Result<bool, Refusal<O
     Ok(false)
 }
 
-impl FromJson for TypeField {
+impl<'a> FromJson<'a> for TypeField<'a> {
     ghost shape = { type_field_of };
 
     #[tactic(auto, unfolding(crate::specs::Objects::type_field_of))]
-    fn from_json(alloc: Global, value: &Value) -> Result<TypeField, Refusal<OtherShape>> {
+    fn from_json(alloc: Global, value: &Element<'a>) -> Result<TypeField<'a>, Refusal<OtherShape>> {
         let count = arrays::item_count(value)?;
         let signed = sign_by(alloc, count, value)?;
         let name = arrays::item_at(alloc, value, 0)?;
@@ -47,24 +47,35 @@ impl FromJson for TypeField {
             width: width_with(signed, given.width),
         })
     }
+
+    fn may_be(value: &Element<'a>) -> bool {
+        shapes::begins_with_text(value)
+    }
 }
 
-impl FromJson for HeaderType {
+impl<'a> FromJson<'a> for HeaderType<'a> {
     ghost shape = { header_type_of };
 
     #[tactic(auto, unfolding(crate::specs::Objects::header_type_of))]
-    fn from_json(alloc: Global, value: &Value) -> Result<HeaderType, Refusal<OtherShape>> {
+    fn from_json(
+        alloc: Global,
+        value: &Element<'a>,
+    ) -> Result<HeaderType<'a>, Refusal<OtherShape>> {
         let name = shapes::required(alloc, value, "name")?;
         let fields = shapes::required(alloc, value, "fields")?;
         Ok(HeaderType { name, fields })
     }
+
+    fn may_be(value: &Element<'a>) -> bool {
+        shapes::has(value, "fields")
+    }
 }
 
-impl FromJson for Header {
+impl<'a> FromJson<'a> for Header<'a> {
     ghost shape = { header_of };
 
     #[tactic(auto, unfolding(crate::specs::Objects::header_of))]
-    fn from_json(alloc: Global, value: &Value) -> Result<Header, Refusal<OtherShape>> {
+    fn from_json(alloc: Global, value: &Element<'a>) -> Result<Header<'a>, Refusal<OtherShape>> {
         let name = shapes::required(alloc, value, "name")?;
         let header_type = shapes::required(alloc, value, "header_type")?;
         let metadata = shapes::required(alloc, value, "metadata")?;
@@ -74,25 +85,36 @@ impl FromJson for Header {
             metadata,
         })
     }
+
+    fn may_be(value: &Element<'a>) -> bool {
+        shapes::has(value, "metadata")
+    }
 }
 
-impl FromJson for ErrorNumber {
+impl<'a> FromJson<'a> for ErrorNumber<'a> {
     ghost shape = { error_of };
 
     #[tactic(auto, unfolding(crate::specs::Objects::error_of))]
-    fn from_json(alloc: Global, value: &Value) -> Result<ErrorNumber, Refusal<OtherShape>> {
+    fn from_json(
+        alloc: Global,
+        value: &Element<'a>,
+    ) -> Result<ErrorNumber<'a>, Refusal<OtherShape>> {
         let count = arrays::item_count(value)?;
         arrays::of_count(2, count)?;
         let name = arrays::item_at(alloc, value, 0)?;
         let number = arrays::item_at(alloc, value, 1)?;
         Ok(ErrorNumber { name, number })
     }
+
+    fn may_be(value: &Element<'a>) -> bool {
+        shapes::begins_with_text(value)
+    }
 }
 
 fn size_by(
     alloc: Global,
     is_direct: bool,
-    value: &Value,
+    value: &Element<'_>,
 ) -> Result<Option<u64>, Refusal<OtherShape>>
     ensures { Reads result (size_by is_direct (view value.now)) }
 {
@@ -103,11 +125,14 @@ fn size_by(
     Ok(Some(size))
 }
 
-impl FromJson for CounterArray {
+impl<'a> FromJson<'a> for CounterArray<'a> {
     ghost shape = { counter_of };
 
     #[tactic(auto, unfolding(crate::specs::Objects::counter_of))]
-    fn from_json(alloc: Global, value: &Value) -> Result<CounterArray, Refusal<OtherShape>> {
+    fn from_json(
+        alloc: Global,
+        value: &Element<'a>,
+    ) -> Result<CounterArray<'a>, Refusal<OtherShape>> {
         let name = shapes::required(alloc, value, "name")?;
         let is_direct = shapes::required(alloc, value, "is_direct")?;
         let size = size_by(alloc, is_direct, value)?;
@@ -117,10 +142,17 @@ impl FromJson for CounterArray {
             size,
         })
     }
+
+    fn may_be(value: &Element<'a>) -> bool {
+        shapes::has(value, "is_direct")
+    }
 }
 
 #[tactic(auto, unfolding(crate::specs::Objects::input_literal))]
-fn input_literal(alloc: Global, input: &Value) -> Result<CalculationInput, Refusal<OtherShape>>
+fn input_literal<'a>(
+    alloc: Global,
+    input: &Element<'a>,
+) -> Result<CalculationInput<'a>, Refusal<OtherShape>>
     ensures { Reads result (input_literal (view input.now)) }
 {
     let value = shapes::required(alloc, input, "value")?;
@@ -128,11 +160,11 @@ fn input_literal(alloc: Global, input: &Value) -> Result<CalculationInput, Refus
     Ok(CalculationInput::Literal { value, width })
 }
 
-fn input_by(
+fn input_by<'a>(
     alloc: Global,
     kind: ValueKind,
-    value: &Value,
-) -> Result<CalculationInput, Refusal<OtherShape>>
+    value: &Element<'a>,
+) -> Result<CalculationInput<'a>, Refusal<OtherShape>>
     ensures { Reads result (input_by kind (view value.now)) }
 {
     match kind {
@@ -146,33 +178,47 @@ fn input_by(
     }
 }
 
-impl FromJson for CalculationInput {
+impl<'a> FromJson<'a> for CalculationInput<'a> {
     ghost shape = { input_of };
 
     #[tactic(auto, unfolding(crate::specs::Objects::input_of))]
-    fn from_json(alloc: Global, value: &Value) -> Result<CalculationInput, Refusal<OtherShape>> {
+    fn from_json(
+        alloc: Global,
+        value: &Element<'a>,
+    ) -> Result<CalculationInput<'a>, Refusal<OtherShape>> {
         let kind = values::kind_of(value)?;
         input_by(alloc, kind, value)
     }
+
+    fn may_be(value: &Element<'a>) -> bool {
+        shapes::has(value, "type")
+    }
 }
 
-impl FromJson for Calculation {
+impl<'a> FromJson<'a> for Calculation<'a> {
     ghost shape = { calculation_of };
 
     #[tactic(auto, unfolding(crate::specs::Objects::calculation_of))]
-    fn from_json(alloc: Global, value: &Value) -> Result<Calculation, Refusal<OtherShape>> {
+    fn from_json(
+        alloc: Global,
+        value: &Element<'a>,
+    ) -> Result<Calculation<'a>, Refusal<OtherShape>> {
         let name = shapes::required(alloc, value, "name")?;
         let algo = shapes::required(alloc, value, "algo")?;
         let input = shapes::required(alloc, value, "input")?;
         Ok(Calculation { name, algo, input })
     }
+
+    fn may_be(value: &Element<'a>) -> bool {
+        shapes::has(value, "input")
+    }
 }
 
-impl FromJson for Checksum {
+impl<'a> FromJson<'a> for Checksum<'a> {
     ghost shape = { checksum_of };
 
     #[tactic(auto, unfolding(crate::specs::Objects::checksum_of))]
-    fn from_json(alloc: Global, value: &Value) -> Result<Checksum, Refusal<OtherShape>> {
+    fn from_json(alloc: Global, value: &Element<'a>) -> Result<Checksum<'a>, Refusal<OtherShape>> {
         let name = shapes::required(alloc, value, "name")?;
         let target = shapes::required(alloc, value, "target")?;
         let calculation = shapes::required(alloc, value, "calculation")?;
@@ -188,16 +234,24 @@ impl FromJson for Checksum {
             if_cond,
         })
     }
+
+    fn may_be(value: &Element<'a>) -> bool {
+        shapes::has(value, "calculation") && shapes::has(value, "target")
+    }
 }
 
-impl FromJson for LearnList {
+impl<'a> FromJson<'a> for LearnList<'a> {
     ghost shape = { learn_list_of };
 
     #[tactic(auto, unfolding(crate::specs::Objects::learn_list_of))]
-    fn from_json(alloc: Global, value: &Value) -> Result<LearnList, Refusal<OtherShape>> {
+    fn from_json(alloc: Global, value: &Element<'a>) -> Result<LearnList<'a>, Refusal<OtherShape>> {
         let name = shapes::required(alloc, value, "name")?;
         let id = shapes::required(alloc, value, "id")?;
         let elements = shapes::required(alloc, value, "elements")?;
         Ok(LearnList { name, id, elements })
+    }
+
+    fn may_be(value: &Element<'a>) -> bool {
+        shapes::has(value, "elements")
     }
 }

@@ -1,7 +1,7 @@
 //! The parser and the deparser.
 ghost use Rattle.std.specs.Prelude.{◌≡◌};
 ghost use Rattle.std.specs.Prelude as spec;
-ghost use Rattle.serde_json.specs.View.{view};
+ghost use Rattle.json_tree.specs.View.{view};
 ghost use Rattle.json_shapes.specs.Shapes.{ReadsExactly, Reads};
 ghost use Rattle.bm_records.specs.Parsers.{extracted_by, extracted, set_of, parser_op_by, parser_op_of, match_text, match_by, match_of, transition_of, state_of, parser_of, deparser_of};
 
@@ -10,16 +10,16 @@ use crate::raw::{Deparser, MatchValue, ParseState, Parser, ParserOp, Part, Trans
 use bm_values::kinds::ValueKind;
 use bm_values::{literals, values};
 use json_shapes::shapes::{self, FromJson};
-use json_shapes::{OtherShape, arrays};
-use list_types::{Refusal, Text};
-use serde_json::Value;
+use json_shapes::{Name, OtherShape, arrays};
+use json_tree::Element;
+use list_types::Refusal;
 use std::alloc::Global;
 
-fn extracted_by(
+fn extracted_by<'a>(
     alloc: Global,
     kind: ValueKind,
-    value: &Value,
-) -> Result<Part<Text>, Refusal<OtherShape>>
+    value: &Element<'a>,
+) -> Result<Part<Name<'a>>, Refusal<OtherShape>>
     ensures { Reads result (extracted_by kind (view value.now)) }
 {
     match kind {
@@ -33,18 +33,21 @@ fn extracted_by(
 }
 
 #[tactic(auto, unfolding(crate::specs::Parsers::extracted, json_shapes::specs::Arrays::item_at))]
-fn extracted(alloc: Global, parameters: &Value) -> Result<Part<Text>, Refusal<OtherShape>>
+fn extracted<'a>(
+    alloc: Global,
+    parameters: &Element<'a>,
+) -> Result<Part<Name<'a>>, Refusal<OtherShape>>
     ensures { Reads result (extracted (view parameters.now)) }
 {
-    let Some(value) = parameters.get(0usize) else {
+    let Some(value) = parameters.at(0) else {
         return Err(Refusal::For(OtherShape));
     };
-    let kind = values::kind_of(value)?;
-    extracted_by(alloc, kind, value)
+    let kind = values::kind_of(&value)?;
+    extracted_by(alloc, kind, &value)
 }
 
 #[tactic(auto, unfolding(crate::specs::Parsers::set_of))]
-fn set(alloc: Global, parameters: &Value) -> Result<ParserOp, Refusal<OtherShape>>
+fn set<'a>(alloc: Global, parameters: &Element<'a>) -> Result<ParserOp<'a>, Refusal<OtherShape>>
     ensures { Reads result (set_of (view parameters.now)) }
 {
     let target = arrays::item_at(alloc, parameters, 0)?;
@@ -52,14 +55,14 @@ fn set(alloc: Global, parameters: &Value) -> Result<ParserOp, Refusal<OtherShape
     Ok(ParserOp::Set { target, value })
 }
 
-fn parser_op_by(
+fn parser_op_by<'a>(
     alloc: Global,
     kind: ParserOpKind,
-    op: Text,
+    op: Name<'a>,
     count: usize,
-    parameters: &Value,
-) -> Result<ParserOp, Refusal<OtherShape>>
-    ensures { Reads result (parser_op_by kind op count (view parameters.now)) }
+    parameters: &Element<'a>,
+) -> Result<ParserOp<'a>, Refusal<OtherShape>>
+    ensures { Reads result (parser_op_by kind op.entry count (view parameters.now)) }
 {
     match kind {
         ParserOpKind::Extract => {
@@ -76,18 +79,22 @@ fn parser_op_by(
     }
 }
 
-impl FromJson for ParserOp {
+impl<'a> FromJson<'a> for ParserOp<'a> {
     ghost shape = { parser_op_of };
 
     #[tactic(auto, unfolding(crate::specs::Parsers::parser_op_of))]
-    fn from_json(alloc: Global, value: &Value) -> Result<ParserOp, Refusal<OtherShape>> {
-        let op: Text = shapes::required(alloc, value, "op")?;
+    fn from_json(alloc: Global, value: &Element<'a>) -> Result<ParserOp<'a>, Refusal<OtherShape>> {
+        let op: Name = shapes::required(alloc, value, "op")?;
         let Some(parameters) = value.get("parameters") else {
             return Err(Refusal::For(OtherShape));
         };
-        let count = arrays::item_count(parameters)?;
+        let count = arrays::item_count(&parameters)?;
         let kind = operations::parser_op_kind(op.as_str());
-        parser_op_by(alloc, kind, op, count, parameters)
+        parser_op_by(alloc, kind, op, count, &parameters)
+    }
+
+    fn may_be(value: &Element<'a>) -> bool {
+        shapes::has(value, "parameters") && shapes::has(value, "op")
     }
 }
 
@@ -104,7 +111,7 @@ fn match_text(text: &str) -> Result<MatchValue, OtherShape>
 }
 
 #[tactic(auto, unfolding(json_shapes::specs::Shapes::required))]
-fn match_value(value: &Value) -> Result<MatchValue, OtherShape>
+fn match_value(value: &Element<'_>) -> Result<MatchValue, OtherShape>
     ensures { ReadsExactly result (match_by spec.None (view value.now)) }
 {
     let Some(inside) = value.get("value") else {
@@ -116,7 +123,7 @@ fn match_value(value: &Value) -> Result<MatchValue, OtherShape>
     }
 }
 
-fn match_by(kind: &Option<Text>, value: &Value) -> Result<MatchValue, OtherShape>
+fn match_by<'a>(kind: &Option<Name<'a>>, value: &Element<'a>) -> Result<MatchValue, OtherShape>
     ensures { ReadsExactly result (match_by kind.now (view value.now)) }
 {
     match kind {
@@ -136,18 +143,21 @@ fn match_by(kind: &Option<Text>, value: &Value) -> Result<MatchValue, OtherShape
 }
 
 #[tactic(auto, unfolding(crate::specs::Parsers::match_of))]
-fn match_of(alloc: Global, value: &Value) -> Result<MatchValue, Refusal<OtherShape>>
+fn match_of(alloc: Global, value: &Element<'_>) -> Result<MatchValue, Refusal<OtherShape>>
     ensures { Reads result (match_of (view value.now)) }
 {
     let kind = shapes::unless_absent(alloc, value, "type")?;
     Ok(match_by(&kind, value)?)
 }
 
-impl FromJson for Transition {
+impl<'a> FromJson<'a> for Transition<'a> {
     ghost shape = { transition_of };
 
     #[tactic(auto, unfolding(crate::specs::Parsers::transition_of))]
-    fn from_json(alloc: Global, value: &Value) -> Result<Transition, Refusal<OtherShape>> {
+    fn from_json(
+        alloc: Global,
+        value: &Element<'a>,
+    ) -> Result<Transition<'a>, Refusal<OtherShape>> {
         let matched = match_of(alloc, value)?;
         let mask = shapes::required(alloc, value, "mask")?;
         let next_state = shapes::required(alloc, value, "next_state")?;
@@ -157,13 +167,20 @@ impl FromJson for Transition {
             next_state,
         })
     }
+
+    fn may_be(value: &Element<'a>) -> bool {
+        shapes::has(value, "next_state") && shapes::has(value, "mask")
+    }
 }
 
-impl FromJson for ParseState {
+impl<'a> FromJson<'a> for ParseState<'a> {
     ghost shape = { state_of };
 
     #[tactic(auto, unfolding(crate::specs::Parsers::state_of))]
-    fn from_json(alloc: Global, value: &Value) -> Result<ParseState, Refusal<OtherShape>> {
+    fn from_json(
+        alloc: Global,
+        value: &Element<'a>,
+    ) -> Result<ParseState<'a>, Refusal<OtherShape>> {
         let name = shapes::required(alloc, value, "name")?;
         let parser_ops = shapes::required(alloc, value, "parser_ops")?;
         let transition_key = shapes::required(alloc, value, "transition_key")?;
@@ -175,13 +192,17 @@ impl FromJson for ParseState {
             transitions,
         })
     }
+
+    fn may_be(value: &Element<'a>) -> bool {
+        shapes::has(value, "transition_key") && shapes::has(value, "transitions")
+    }
 }
 
-impl FromJson for Parser {
+impl<'a> FromJson<'a> for Parser<'a> {
     ghost shape = { parser_of };
 
     #[tactic(auto, unfolding(crate::specs::Parsers::parser_of))]
-    fn from_json(alloc: Global, value: &Value) -> Result<Parser, Refusal<OtherShape>> {
+    fn from_json(alloc: Global, value: &Element<'a>) -> Result<Parser<'a>, Refusal<OtherShape>> {
         let init_state = shapes::required(alloc, value, "init_state")?;
         let parse_states = shapes::required(alloc, value, "parse_states")?;
         Ok(Parser {
@@ -189,15 +210,23 @@ impl FromJson for Parser {
             parse_states,
         })
     }
+
+    fn may_be(value: &Element<'a>) -> bool {
+        shapes::has(value, "parse_states")
+    }
 }
 
-impl FromJson for Deparser {
+impl<'a> FromJson<'a> for Deparser<'a> {
     ghost shape = { deparser_of };
 
     #[tactic(auto, unfolding(crate::specs::Parsers::deparser_of))]
-    fn from_json(alloc: Global, value: &Value) -> Result<Deparser, Refusal<OtherShape>> {
+    fn from_json(alloc: Global, value: &Element<'a>) -> Result<Deparser<'a>, Refusal<OtherShape>> {
         let order = shapes::required(alloc, value, "order")?;
         shapes::nothing_in(value, "primitives")?;
         Ok(Deparser { order })
+    }
+
+    fn may_be(value: &Element<'a>) -> bool {
+        shapes::has(value, "order")
     }
 }

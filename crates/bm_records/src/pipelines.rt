@@ -1,6 +1,10 @@
 //! Tables, action profiles, conditionals and pipelines.
-ghost use Rattle.std.specs.Prelude.{◌≡◌, length};
-ghost use Rattle.serde_json.specs.View.{view, members_view};
+ghost use Rattle.std.specs.Prelude.{◌≡◌, length, IfOk, IfErr};
+ghost use Rattle.serde_json.specs.Data.{no_members};
+ghost use Rattle.json_tree.specs.Nodes.{puts};
+ghost use Rattle.json_tree.specs.View.{view, items_in};
+ghost use Rattle.bm_records.specs.Members.{members_view};
+ghost use Rattle.list_types.specs.declared.memory.Refusal.TheVariants as refusals;
 ghost use Rattle.json_shapes.specs.Shapes.{ReadsExactly, Reads};
 ghost use Rattle.bm_records.specs.Pipelines.{match_kind, key_field_of, table_kind, profile_by, next_table, each_next, next_tables_of, as_many, default_of, table_of, selector_of, profile_of, conditional_of, gress, pipeline_of, sides, pipelines_of};
 
@@ -9,11 +13,12 @@ use crate::raw::{
     Selector, Table, TableKind,
 };
 use json_shapes::shapes::{self, FromJson};
-use json_shapes::{OtherShape, arrays};
-use list_types::{List, Refusal, Text};
+use json_shapes::{Name, OtherShape, arrays};
+use json_tree::{Element, Items};
+use list_types::{List, Refusal};
 use p4_types::info::MatchKind;
-use serde_json::{Map, Value};
 use std::alloc::Global;
+use std::collections::BTreeMap;
 
 fn match_kind(text: &str) -> Result<MatchKind, OtherShape>
     ensures { ReadsExactly result (match_kind text.now) }
@@ -33,16 +38,20 @@ fn match_kind(text: &str) -> Result<MatchKind, OtherShape>
     }
 }
 
-impl FromJson for KeyField {
+impl<'a> FromJson<'a> for KeyField<'a> {
     ghost shape = { key_field_of };
 
     #[tactic(auto, unfolding(crate::specs::Pipelines::key_field_of))]
-    fn from_json(alloc: Global, value: &Value) -> Result<KeyField, Refusal<OtherShape>> {
-        let text: Text = shapes::required(alloc, value, "match_type")?;
+    fn from_json(alloc: Global, value: &Element<'a>) -> Result<KeyField<'a>, Refusal<OtherShape>> {
+        let text: Name = shapes::required(alloc, value, "match_type")?;
         let kind = match_kind(text.as_str())?;
         let target = shapes::required(alloc, value, "target")?;
         let _mask: Option<()> = shapes::unless_absent(alloc, value, "mask")?;
         Ok(KeyField { kind, target })
+    }
+
+    fn may_be(value: &Element<'a>) -> bool {
+        shapes::has(value, "match_type")
     }
 }
 
@@ -60,11 +69,11 @@ fn table_kind(text: &str) -> Result<TableKind, OtherShape>
     }
 }
 
-fn profile_by(
+fn profile_by<'a>(
     alloc: Global,
     kind: TableKind,
-    value: &Value,
-) -> Result<Option<Text>, Refusal<OtherShape>>
+    value: &Element<'a>,
+) -> Result<Option<Name<'a>>, Refusal<OtherShape>>
     ensures { Reads result (profile_by kind (view value.now)) }
 {
     match kind {
@@ -76,30 +85,72 @@ fn profile_by(
     }
 }
 
-fn next_table(alloc: Global, outcome: &str, node: &Value) -> Result<NextTable, Refusal<OtherShape>>
+fn next_table<'a>(
+    alloc: Global,
+    outcome: &'a str,
+    node: &Element<'a>,
+) -> Result<NextTable<'a>, Refusal<OtherShape>>
     ensures { Reads result (next_table outcome.now (view node.now)) }
 {
-    let outcome = Text::from_string(String::from_str(alloc, outcome)?);
     let node = FromJson::from_json(alloc, node)?;
-    Ok(NextTable { outcome, node })
+    Ok(NextTable {
+        outcome: Name::of(outcome),
+        node,
+    })
 }
 
-fn each_next(
+/// The members by rising names, with the last value of each.
+fn by_names<'a>(
     alloc: Global,
-    members: &Map<String, Value>,
-) -> Result<List<NextTable>, Refusal<OtherShape>>
+    mut members: Items<'a>,
+) -> Result<BTreeMap<&'a str, Element<'a>>, Refusal<OtherShape>>
+    ensures ok { IfOk result (λ found. members_view found.entries ≡ puts (items_in members.entry) no_members) }
+    ensures err { IfErr result (λ e. e ≡ refusals.NoMemory) }
+{
+    let mut found = BTreeMap::new(alloc);
+    'members: while let Some((name, member)) = members.next_member() {
+        match found.insert(name, member) {
+            Ok(earlier) => drop(earlier),
+            Err(failed) => {
+                drop(failed);
+                return Err(Refusal::NoMemory);
+            }
+        }
+    }
+    Ok(found)
+}
+
+fn each_next<'a>(
+    alloc: Global,
+    members: &BTreeMap<&'a str, Element<'a>>,
+) -> Result<List<NextTable<'a>>, Refusal<OtherShape>>
     ensures { Reads result (each_next (members_view members.now.entries)) }
 {
-    let mut nexts = List::new(alloc);
+    let mut nexts = List::from_vec(Vec::with_capacity(alloc, members.len())?);
     for (name, node) in members.iter() {
-        let next = next_table(alloc, name.as_str(), node)?;
+        let next = next_table(alloc, *name, node)?;
         nexts.push(next)?;
     }
     Ok(nexts)
 }
 
+fn nexts_of<'a>(
+    alloc: Global,
+    members: Items<'a>,
+) -> Result<List<NextTable<'a>>, Refusal<OtherShape>>
+    ensures { Reads result (each_next (puts (items_in members.entry) no_members)) }
+{
+    match by_names(alloc, members) {
+        Ok(members) => each_next(alloc, &members),
+        Err(refusal) => Err(refusal),
+    }
+}
+
 #[tactic(auto, unfolding(crate::specs::Pipelines::next_tables_of))]
-fn next_tables(alloc: Global, value: &Value) -> Result<List<NextTable>, Refusal<OtherShape>>
+fn next_tables<'a>(
+    alloc: Global,
+    value: &Element<'a>,
+) -> Result<List<NextTable<'a>>, Refusal<OtherShape>>
     ensures { Reads result (next_tables_of (view value.now)) }
 {
     let Some(nexts) = value.get("next_tables") else {
@@ -109,12 +160,12 @@ fn next_tables(alloc: Global, value: &Value) -> Result<List<NextTable>, Refusal<
         return Ok(List::new(alloc));
     }
     match nexts.as_object() {
-        Some(members) => each_next(alloc, members),
+        Some(members) => nexts_of(alloc, members),
         None => Err(Refusal::For(OtherShape)),
     }
 }
 
-fn as_many(ids: &List<u64>, names: &List<Text>) -> Result<(), OtherShape>
+fn as_many(ids: &List<u64>, names: &List<Name<'_>>) -> Result<(), OtherShape>
     ensures { ReadsExactly result (as_many (length ids.now) (length names.now)) }
 {
     if ids.len() == names.len() {
@@ -124,11 +175,11 @@ fn as_many(ids: &List<u64>, names: &List<Text>) -> Result<(), OtherShape>
     }
 }
 
-impl FromJson for DefaultEntry {
+impl<'a> FromJson<'a> for DefaultEntry {
     ghost shape = { default_of };
 
     #[tactic(auto, unfolding(crate::specs::Pipelines::default_of))]
-    fn from_json(alloc: Global, value: &Value) -> Result<DefaultEntry, Refusal<OtherShape>> {
+    fn from_json(alloc: Global, value: &Element<'a>) -> Result<DefaultEntry, Refusal<OtherShape>> {
         let action_id = shapes::required(alloc, value, "action_id")?;
         let action_data = shapes::required(alloc, value, "action_data")?;
         Ok(DefaultEntry {
@@ -136,16 +187,20 @@ impl FromJson for DefaultEntry {
             action_data,
         })
     }
+
+    fn may_be(value: &Element<'a>) -> bool {
+        shapes::has(value, "action_data")
+    }
 }
 
-impl FromJson for Table {
+impl<'a> FromJson<'a> for Table<'a> {
     ghost shape = { table_of };
 
     #[tactic(auto, unfolding(crate::specs::Pipelines::table_of))]
-    fn from_json(alloc: Global, value: &Value) -> Result<Table, Refusal<OtherShape>> {
+    fn from_json(alloc: Global, value: &Element<'a>) -> Result<Table<'a>, Refusal<OtherShape>> {
         let name = shapes::required(alloc, value, "name")?;
         let key = shapes::required(alloc, value, "key")?;
-        let text: Text = shapes::required(alloc, value, "type")?;
+        let text: Name = shapes::required(alloc, value, "type")?;
         let kind = table_kind(text.as_str())?;
         let action_profile = profile_by(alloc, kind, value)?;
         let action_ids = shapes::required(alloc, value, "action_ids")?;
@@ -168,34 +223,54 @@ impl FromJson for Table {
             has_entries,
         })
     }
-}
 
-impl FromJson for Selector {
-    ghost shape = { selector_of };
-
-    #[tactic(auto, unfolding(crate::specs::Pipelines::selector_of))]
-    fn from_json(alloc: Global, value: &Value) -> Result<Selector, Refusal<OtherShape>> {
-        let input = shapes::required(alloc, value, "input")?;
-        Ok(Selector { input })
+    fn may_be(value: &Element<'a>) -> bool {
+        shapes::has(value, "action_ids")
+            && shapes::has(value, "actions")
+            && shapes::has(value, "key")
     }
 }
 
-impl FromJson for ActionProfile {
+impl<'a> FromJson<'a> for Selector<'a> {
+    ghost shape = { selector_of };
+
+    #[tactic(auto, unfolding(crate::specs::Pipelines::selector_of))]
+    fn from_json(alloc: Global, value: &Element<'a>) -> Result<Selector<'a>, Refusal<OtherShape>> {
+        let input = shapes::required(alloc, value, "input")?;
+        Ok(Selector { input })
+    }
+
+    fn may_be(value: &Element<'a>) -> bool {
+        shapes::has(value, "input")
+    }
+}
+
+impl<'a> FromJson<'a> for ActionProfile<'a> {
     ghost shape = { profile_of };
 
     #[tactic(auto, unfolding(crate::specs::Pipelines::profile_of))]
-    fn from_json(alloc: Global, value: &Value) -> Result<ActionProfile, Refusal<OtherShape>> {
+    fn from_json(
+        alloc: Global,
+        value: &Element<'a>,
+    ) -> Result<ActionProfile<'a>, Refusal<OtherShape>> {
         let name = shapes::required(alloc, value, "name")?;
         let selector = shapes::optional(alloc, value, "selector")?;
         Ok(ActionProfile { name, selector })
     }
+
+    fn may_be(value: &Element<'a>) -> bool {
+        shapes::has(value, "name")
+    }
 }
 
-impl FromJson for Conditional {
+impl<'a> FromJson<'a> for Conditional<'a> {
     ghost shape = { conditional_of };
 
     #[tactic(auto, unfolding(crate::specs::Pipelines::conditional_of))]
-    fn from_json(alloc: Global, value: &Value) -> Result<Conditional, Refusal<OtherShape>> {
+    fn from_json(
+        alloc: Global,
+        value: &Element<'a>,
+    ) -> Result<Conditional<'a>, Refusal<OtherShape>> {
         let name = shapes::required(alloc, value, "name")?;
         let expression = shapes::required(alloc, value, "expression")?;
         let true_next = shapes::required(alloc, value, "true_next")?;
@@ -206,6 +281,10 @@ impl FromJson for Conditional {
             true_next,
             false_next,
         })
+    }
+
+    fn may_be(value: &Element<'a>) -> bool {
+        shapes::has(value, "true_next") && shapes::has(value, "false_next")
     }
 }
 
@@ -221,12 +300,12 @@ fn gress(text: &str) -> Result<Gress, OtherShape>
     }
 }
 
-impl FromJson for Pipeline {
+impl<'a> FromJson<'a> for Pipeline<'a> {
     ghost shape = { pipeline_of };
 
     #[tactic(auto, unfolding(crate::specs::Pipelines::pipeline_of))]
-    fn from_json(alloc: Global, value: &Value) -> Result<Pipeline, Refusal<OtherShape>> {
-        let text: Text = shapes::required(alloc, value, "name")?;
+    fn from_json(alloc: Global, value: &Element<'a>) -> Result<Pipeline<'a>, Refusal<OtherShape>> {
+        let text: Name = shapes::required(alloc, value, "name")?;
         let gress = gress(text.as_str())?;
         let init_table = shapes::required(alloc, value, "init_table")?;
         let tables = shapes::required(alloc, value, "tables")?;
@@ -241,10 +320,14 @@ impl FromJson for Pipeline {
             conditionals,
         })
     }
+
+    fn may_be(value: &Element<'a>) -> bool {
+        shapes::has(value, "tables")
+    }
 }
 
-fn sides(first: Pipeline, second: Pipeline) -> Result<Pipelines, OtherShape>
-    ensures { ReadsExactly result (sides first.gress second.gress first second) }
+fn sides<'a>(first: Pipeline<'a>, second: Pipeline<'a>) -> Result<Pipelines<'a>, OtherShape>
+    ensures { ReadsExactly result (sides first.entry.gress second.entry.gress first.entry second.entry) }
 {
     match (first.gress, second.gress) {
         (Gress::Ingress, Gress::Egress) => Ok(Pipelines {
@@ -259,15 +342,19 @@ fn sides(first: Pipeline, second: Pipeline) -> Result<Pipelines, OtherShape>
     }
 }
 
-impl FromJson for Pipelines {
+impl<'a> FromJson<'a> for Pipelines<'a> {
     ghost shape = { pipelines_of };
 
     #[tactic(auto, unfolding(crate::specs::Pipelines::pipelines_of))]
-    fn from_json(alloc: Global, value: &Value) -> Result<Pipelines, Refusal<OtherShape>> {
+    fn from_json(alloc: Global, value: &Element<'a>) -> Result<Pipelines<'a>, Refusal<OtherShape>> {
         let count = arrays::item_count(value)?;
         arrays::of_count(2, count)?;
         let first = arrays::item_at(alloc, value, 0)?;
         let second = arrays::item_at(alloc, value, 1)?;
         Ok(sides(first, second)?)
+    }
+
+    fn may_be(value: &Element<'a>) -> bool {
+        value.is_array()
     }
 }

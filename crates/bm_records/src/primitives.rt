@@ -1,6 +1,6 @@
 //! Actions and their primitives.
 ghost use Rattle.std.specs.Prelude.{◌≡◌};
-ghost use Rattle.serde_json.specs.View.{view};
+ghost use Rattle.json_tree.specs.View.{view};
 ghost use Rattle.json_shapes.specs.Shapes.{Reads};
 ghost use Rattle.json_shapes.specs.Arrays.{item_at};
 ghost use Rattle.bm_records.specs.Primitives.{learn_list_by, learn_list_name, counter_by, counter_name, assign_of, assign_header_of, count_of, primitive_by, primitive_of, datum_of, action_of};
@@ -10,16 +10,16 @@ use crate::raw::{Action, Datum, LearnListName, Part, Primitive};
 use bm_values::kinds::ValueKind;
 use bm_values::values;
 use json_shapes::shapes::{self, FromJson};
-use json_shapes::{OtherShape, arrays};
-use list_types::{Refusal, Text};
-use serde_json::Value;
+use json_shapes::{Name, OtherShape, arrays};
+use json_tree::Element;
+use list_types::Refusal;
 use std::alloc::Global;
 
-fn learn_list_by(
+fn learn_list_by<'a>(
     alloc: Global,
     kind: ValueKind,
-    value: &Value,
-) -> Result<LearnListName, Refusal<OtherShape>>
+    value: &Element<'a>,
+) -> Result<LearnListName<'a>, Refusal<OtherShape>>
     ensures { Reads result (learn_list_by kind (view value.now)) }
 {
     match kind {
@@ -36,21 +36,28 @@ fn learn_list_by(
     }
 }
 
-impl FromJson for LearnListName {
+impl<'a> FromJson<'a> for LearnListName<'a> {
     ghost shape = { learn_list_name };
 
     #[tactic(auto, unfolding(crate::specs::Primitives::learn_list_name))]
-    fn from_json(alloc: Global, value: &Value) -> Result<LearnListName, Refusal<OtherShape>> {
+    fn from_json(
+        alloc: Global,
+        value: &Element<'a>,
+    ) -> Result<LearnListName<'a>, Refusal<OtherShape>> {
         let kind = values::kind_of(value)?;
         learn_list_by(alloc, kind, value)
     }
+
+    fn may_be(value: &Element<'a>) -> bool {
+        shapes::has(value, "type")
+    }
 }
 
-fn counter_by(
+fn counter_by<'a>(
     alloc: Global,
     kind: ValueKind,
-    value: &Value,
-) -> Result<Part<Text>, Refusal<OtherShape>>
+    value: &Element<'a>,
+) -> Result<Part<Name<'a>>, Refusal<OtherShape>>
     ensures { Reads result (counter_by kind (view value.now)) }
 {
     match kind {
@@ -64,7 +71,7 @@ fn counter_by(
 }
 
 #[tactic(auto, unfolding(crate::specs::Primitives::assign_of))]
-fn assign(alloc: Global, parameters: &Value) -> Result<Primitive, Refusal<OtherShape>>
+fn assign<'a>(alloc: Global, parameters: &Element<'a>) -> Result<Primitive<'a>, Refusal<OtherShape>>
     ensures { Reads result (assign_of (view parameters.now)) }
 {
     let target = arrays::item_at(alloc, parameters, 0)?;
@@ -73,7 +80,10 @@ fn assign(alloc: Global, parameters: &Value) -> Result<Primitive, Refusal<OtherS
 }
 
 #[tactic(auto, unfolding(crate::specs::Primitives::assign_header_of))]
-fn assign_header(alloc: Global, parameters: &Value) -> Result<Primitive, Refusal<OtherShape>>
+fn assign_header<'a>(
+    alloc: Global,
+    parameters: &Element<'a>,
+) -> Result<Primitive<'a>, Refusal<OtherShape>>
     ensures { Reads result (assign_header_of (view parameters.now)) }
 {
     let target = arrays::item_at(alloc, parameters, 0)?;
@@ -82,18 +92,21 @@ fn assign_header(alloc: Global, parameters: &Value) -> Result<Primitive, Refusal
 }
 
 #[tactic(auto, unfolding(crate::specs::Primitives::counter_name, json_shapes::specs::Arrays::item_at))]
-fn counter_at_first(alloc: Global, parameters: &Value) -> Result<Part<Text>, Refusal<OtherShape>>
+fn counter_at_first<'a>(
+    alloc: Global,
+    parameters: &Element<'a>,
+) -> Result<Part<Name<'a>>, Refusal<OtherShape>>
     ensures { Reads result (item_at counter_name 0 (view parameters.now)) }
 {
-    let Some(value) = parameters.get(0usize) else {
+    let Some(value) = parameters.at(0) else {
         return Err(Refusal::For(OtherShape));
     };
-    let kind = values::kind_of(value)?;
-    counter_by(alloc, kind, value)
+    let kind = values::kind_of(&value)?;
+    counter_by(alloc, kind, &value)
 }
 
 #[tactic(auto, unfolding(crate::specs::Primitives::count_of))]
-fn count(alloc: Global, parameters: &Value) -> Result<Primitive, Refusal<OtherShape>>
+fn count<'a>(alloc: Global, parameters: &Element<'a>) -> Result<Primitive<'a>, Refusal<OtherShape>>
     ensures { Reads result (count_of (view parameters.now)) }
 {
     let counter = counter_at_first(alloc, parameters)?;
@@ -101,14 +114,14 @@ fn count(alloc: Global, parameters: &Value) -> Result<Primitive, Refusal<OtherSh
     Ok(Primitive::Count { counter, index })
 }
 
-fn primitive_by(
+fn primitive_by<'a>(
     alloc: Global,
     kind: PrimitiveKind,
-    op: Text,
+    op: Name<'a>,
     count_of: usize,
-    parameters: &Value,
-) -> Result<Primitive, Refusal<OtherShape>>
-    ensures { Reads result (primitive_by kind op count_of (view parameters.now)) }
+    parameters: &Element<'a>,
+) -> Result<Primitive<'a>, Refusal<OtherShape>>
+    ensures { Reads result (primitive_by kind op.entry count_of (view parameters.now)) }
 {
     match kind {
         PrimitiveKind::Assign => {
@@ -145,36 +158,44 @@ fn primitive_by(
     }
 }
 
-impl FromJson for Primitive {
+impl<'a> FromJson<'a> for Primitive<'a> {
     ghost shape = { primitive_of };
 
     #[tactic(auto, unfolding(crate::specs::Primitives::primitive_of))]
-    fn from_json(alloc: Global, value: &Value) -> Result<Primitive, Refusal<OtherShape>> {
-        let op: Text = shapes::required(alloc, value, "op")?;
+    fn from_json(alloc: Global, value: &Element<'a>) -> Result<Primitive<'a>, Refusal<OtherShape>> {
+        let op: Name = shapes::required(alloc, value, "op")?;
         let Some(parameters) = value.get("parameters") else {
             return Err(Refusal::For(OtherShape));
         };
-        let count = arrays::item_count(parameters)?;
+        let count = arrays::item_count(&parameters)?;
         let kind = operations::primitive_kind(op.as_str());
-        primitive_by(alloc, kind, op, count, parameters)
+        primitive_by(alloc, kind, op, count, &parameters)
+    }
+
+    fn may_be(value: &Element<'a>) -> bool {
+        shapes::has(value, "parameters") && shapes::has(value, "op")
     }
 }
 
-impl FromJson for Datum {
+impl<'a> FromJson<'a> for Datum {
     ghost shape = { datum_of };
 
     #[tactic(auto, unfolding(crate::specs::Primitives::datum_of))]
-    fn from_json(alloc: Global, value: &Value) -> Result<Datum, Refusal<OtherShape>> {
+    fn from_json(alloc: Global, value: &Element<'a>) -> Result<Datum, Refusal<OtherShape>> {
         let width = shapes::required(alloc, value, "bitwidth")?;
         Ok(Datum { width })
     }
+
+    fn may_be(value: &Element<'a>) -> bool {
+        shapes::has(value, "bitwidth")
+    }
 }
 
-impl FromJson for Action {
+impl<'a> FromJson<'a> for Action<'a> {
     ghost shape = { action_of };
 
     #[tactic(auto, unfolding(crate::specs::Primitives::action_of))]
-    fn from_json(alloc: Global, value: &Value) -> Result<Action, Refusal<OtherShape>> {
+    fn from_json(alloc: Global, value: &Element<'a>) -> Result<Action<'a>, Refusal<OtherShape>> {
         let name = shapes::required(alloc, value, "name")?;
         let id = shapes::required(alloc, value, "id")?;
         let runtime_data = shapes::required(alloc, value, "runtime_data")?;
@@ -185,5 +206,9 @@ impl FromJson for Action {
             runtime_data,
             primitives,
         })
+    }
+
+    fn may_be(value: &Element<'a>) -> bool {
+        shapes::has(value, "primitives") && shapes::has(value, "runtime_data")
     }
 }

@@ -4,66 +4,67 @@ pub use bm_values::raw::{
     BinaryOperator, Expression, FieldName, Node, Part, RawField, RawLiteral, RawWidth,
     UnaryOperator,
 };
-use list_types::{List, Text};
+use json_shapes::Name;
+use list_types::List;
 use p4_types::info::MatchKind;
 
 #[derive(Drop)]
-pub struct TypeField {
-    pub name: Text,
+pub struct TypeField<'a> {
+    pub name: Name<'a>,
     pub width: RawWidth,
 }
 
 #[derive(Drop)]
-pub struct HeaderType {
-    pub name: Text,
-    pub fields: List<TypeField>,
+pub struct HeaderType<'a> {
+    pub name: Name<'a>,
+    pub fields: List<TypeField<'a>>,
 }
 
 #[derive(Drop)]
-pub struct Header {
-    pub name: Text,
-    pub header_type: Text,
+pub struct Header<'a> {
+    pub name: Name<'a>,
+    pub header_type: Name<'a>,
     pub metadata: bool,
 }
 
 #[derive(Drop)]
-pub struct ErrorNumber {
-    pub name: Text,
+pub struct ErrorNumber<'a> {
+    pub name: Name<'a>,
     pub number: u64,
 }
 
 /// A list of digest data, by its name or its id.
 #[derive(Drop)]
-pub enum LearnListName {
-    Name(Text),
+pub enum LearnListName<'a> {
+    Name(Name<'a>),
     Id(RawLiteral),
     LeftOut,
 }
 
 /// A primitive of an action.
 #[derive(Drop)]
-pub enum Primitive {
+pub enum Primitive<'a> {
     Assign {
-        target: RawField,
-        value: Expression,
+        target: RawField<'a>,
+        value: Expression<'a>,
     },
-    AddHeader(Part<Text>),
-    RemoveHeader(Part<Text>),
+    AddHeader(Part<Name<'a>>),
+    RemoveHeader(Part<Name<'a>>),
     AssignHeader {
-        target: Part<Text>,
-        source: Part<Text>,
+        target: Part<Name<'a>>,
+        source: Part<Name<'a>>,
     },
     /// `mark_to_drop` and `drop`.
     Drop,
     Count {
-        counter: Part<Text>,
-        index: Expression,
+        counter: Part<Name<'a>>,
+        index: Expression<'a>,
     },
-    GenerateDigest(LearnListName),
+    GenerateDigest(LearnListName<'a>),
     NoOp,
     LeftOut,
     /// A primitive of a name that is not known.
-    Unknown(Text),
+    Unknown(Name<'a>),
 }
 
 /// A datum of an action.
@@ -73,21 +74,24 @@ pub struct Datum {
 }
 
 #[derive(Drop)]
-pub struct Action {
-    pub name: Text,
+pub struct Action<'a> {
+    pub name: Name<'a>,
     pub id: u64,
     pub runtime_data: List<Datum>,
-    pub primitives: List<Primitive>,
+    pub primitives: List<Primitive<'a>>,
 }
 
 /// An operation of a parser's state.
 #[derive(Drop)]
-pub enum ParserOp {
-    Extract(Part<Text>),
-    Set { target: RawField, value: Expression },
+pub enum ParserOp<'a> {
+    Extract(Part<Name<'a>>),
+    Set {
+        target: RawField<'a>,
+        value: Expression<'a>,
+    },
     LeftOut,
     /// An operation of a name that is not known.
-    Unknown(Text),
+    Unknown(Name<'a>),
 }
 
 /// What a transition asks of the key.
@@ -99,77 +103,77 @@ pub enum MatchValue {
 }
 
 #[derive(Drop)]
-pub struct Transition {
+pub struct Transition<'a> {
     pub value: MatchValue,
     pub mask: Option<RawLiteral>,
     /// Without one the packet is accepted.
-    pub next_state: Option<Text>,
+    pub next_state: Option<Name<'a>>,
 }
 
 #[derive(Drop)]
-pub struct ParseState {
-    pub name: Text,
-    pub parser_ops: List<ParserOp>,
-    pub transition_key: List<RawField>,
-    pub transitions: List<Transition>,
+pub struct ParseState<'a> {
+    pub name: Name<'a>,
+    pub parser_ops: List<ParserOp<'a>>,
+    pub transition_key: List<RawField<'a>>,
+    pub transitions: List<Transition<'a>>,
 }
 
 #[derive(Drop)]
-pub struct Parser {
-    pub init_state: Text,
-    pub parse_states: List<ParseState>,
+pub struct Parser<'a> {
+    pub init_state: Name<'a>,
+    pub parse_states: List<ParseState<'a>>,
 }
 
 #[derive(Drop)]
-pub struct Deparser {
-    pub order: List<Text>,
+pub struct Deparser<'a> {
+    pub order: List<Name<'a>>,
 }
 
 /// A counter array; a direct one has no size.
 #[derive(Drop)]
-pub struct CounterArray {
-    pub name: Text,
+pub struct CounterArray<'a> {
+    pub name: Name<'a>,
     pub is_direct: bool,
     pub size: Option<u64>,
 }
 
 /// What a calculation takes in.
 #[derive(Drop)]
-pub enum CalculationInput {
-    Field(FieldName),
+pub enum CalculationInput<'a> {
+    Field(FieldName<'a>),
     Literal { value: RawLiteral, width: RawWidth },
     LeftOut,
 }
 
 #[derive(Drop)]
-pub struct Calculation {
-    pub name: Text,
-    pub algo: Text,
-    pub input: List<CalculationInput>,
+pub struct Calculation<'a> {
+    pub name: Name<'a>,
+    pub algo: Name<'a>,
+    pub input: List<CalculationInput<'a>>,
 }
 
 #[derive(Drop)]
-pub struct Checksum {
-    pub name: Text,
-    pub target: FieldName,
-    pub calculation: Text,
+pub struct Checksum<'a> {
+    pub name: Name<'a>,
+    pub target: FieldName<'a>,
+    pub calculation: Name<'a>,
     pub update: bool,
     pub verify: bool,
-    pub if_cond: Option<Expression>,
+    pub if_cond: Option<Expression<'a>>,
 }
 
 #[derive(Drop)]
-pub struct LearnList {
-    pub name: Text,
+pub struct LearnList<'a> {
+    pub name: Name<'a>,
     pub id: u64,
-    pub elements: List<RawField>,
+    pub elements: List<RawField<'a>>,
 }
 
 /// A field of a table's key.
 #[derive(Drop)]
-pub struct KeyField {
+pub struct KeyField<'a> {
     pub kind: MatchKind,
-    pub target: FieldName,
+    pub target: FieldName<'a>,
 }
 
 #[derive(Clone, Copy)]
@@ -182,9 +186,9 @@ pub enum TableKind {
 
 /// What follows a table on an outcome: `__HIT__`, `__MISS__`, or an action's name; it ends the pipeline where no node is named.
 #[derive(Drop)]
-pub struct NextTable {
-    pub outcome: Text,
-    pub node: Option<Text>,
+pub struct NextTable<'a> {
+    pub outcome: Name<'a>,
+    pub node: Option<Name<'a>>,
 }
 
 #[derive(Drop)]
@@ -194,40 +198,40 @@ pub struct DefaultEntry {
 }
 
 #[derive(Drop)]
-pub struct Table {
-    pub name: Text,
-    pub key: List<KeyField>,
+pub struct Table<'a> {
+    pub name: Name<'a>,
+    pub key: List<KeyField<'a>>,
     pub kind: TableKind,
     /// The name of its action profile, where it is indirect.
-    pub action_profile: Option<Text>,
+    pub action_profile: Option<Name<'a>>,
     /// The ids of its actions and their names, side by side.
     pub action_ids: List<u64>,
-    pub actions: List<Text>,
+    pub actions: List<Name<'a>>,
     /// All that `next_tables` names, by rising outcomes.
-    pub next_tables: List<NextTable>,
-    pub base_default_next: Option<Text>,
+    pub next_tables: List<NextTable<'a>>,
+    pub base_default_next: Option<Name<'a>>,
     pub default_entry: Option<DefaultEntry>,
     /// Whether entries are written in the program.
     pub has_entries: bool,
 }
 
 #[derive(Drop)]
-pub struct Selector {
-    pub input: List<RawField>,
+pub struct Selector<'a> {
+    pub input: List<RawField<'a>>,
 }
 
 #[derive(Drop)]
-pub struct ActionProfile {
-    pub name: Text,
-    pub selector: Option<Selector>,
+pub struct ActionProfile<'a> {
+    pub name: Name<'a>,
+    pub selector: Option<Selector<'a>>,
 }
 
 #[derive(Drop)]
-pub struct Conditional {
-    pub name: Text,
-    pub expression: Expression,
-    pub true_next: Option<Text>,
-    pub false_next: Option<Text>,
+pub struct Conditional<'a> {
+    pub name: Name<'a>,
+    pub expression: Expression<'a>,
+    pub true_next: Option<Name<'a>>,
+    pub false_next: Option<Name<'a>>,
 }
 
 #[derive(Clone, Copy)]
@@ -237,39 +241,39 @@ pub enum Gress {
 }
 
 #[derive(Drop)]
-pub struct Pipeline {
+pub struct Pipeline<'a> {
     pub gress: Gress,
-    pub init_table: Option<Text>,
-    pub tables: List<Table>,
-    pub action_profiles: List<ActionProfile>,
-    pub conditionals: List<Conditional>,
+    pub init_table: Option<Name<'a>>,
+    pub tables: List<Table<'a>>,
+    pub action_profiles: List<ActionProfile<'a>>,
+    pub conditionals: List<Conditional<'a>>,
 }
 
 #[derive(Drop)]
-pub struct Pipelines {
-    pub ingress: Pipeline,
-    pub egress: Pipeline,
+pub struct Pipelines<'a> {
+    pub ingress: Pipeline<'a>,
+    pub egress: Pipeline<'a>,
 }
 
 /// A program.
-pub struct RawProgram {
-    pub header_types: List<HeaderType>,
-    pub headers: List<Header>,
-    pub errors: List<ErrorNumber>,
-    pub parser: Parser,
-    pub deparser: Deparser,
-    pub counter_arrays: List<CounterArray>,
-    pub calculations: List<Calculation>,
-    pub checksums: List<Checksum>,
-    pub learn_lists: List<LearnList>,
-    pub actions: List<Action>,
-    pub pipelines: Pipelines,
+pub struct RawProgram<'a> {
+    pub header_types: List<HeaderType<'a>>,
+    pub headers: List<Header<'a>>,
+    pub errors: List<ErrorNumber<'a>>,
+    pub parser: Parser<'a>,
+    pub deparser: Deparser<'a>,
+    pub counter_arrays: List<CounterArray<'a>>,
+    pub calculations: List<Calculation<'a>>,
+    pub checksums: List<Checksum<'a>>,
+    pub learn_lists: List<LearnList<'a>>,
+    pub actions: List<Action<'a>>,
+    pub pipelines: Pipelines<'a>,
     /// Whether it lists registers, meters, extern instances, value sets, stacks or unions.
     pub lists_left_out: bool,
 }
 
 // Written out, so that those who let one go need not look into it.
-impl Drop for RawProgram {
+impl<'a> Drop for RawProgram<'a> {
     fn drop(self) {
         let Self {
             header_types: _header_types,

@@ -1,20 +1,24 @@
--- What stands at the place of an object in a list beside that of the objects.
-use Rattle.std.proofs.Common.{◌≡◌, ℕ, Bool, List, map, Some, None, sym, ap, ◌∙◌, ◌++◌, option_map, append_assoc, Bor}
-use Rattle.std.specs.List.{find, position, slice_get}
+-- Fields by their headers' types, and what stands in two lists.
+use Rattle.std.proofs.Common.{◌≡◌, ℕ, Bool, List, Option, Some, None, refl, ap, ◌∙◌, ◌++◌, option_map, option_and_then, append_assoc}
+use Rattle.std.specs.List.{find}
 use Rattle.std.specs.Option.{option_or}
-use Rattle.std.proofs.lemmas.Option.{slice_get-map}
 use Rattle.std.proofs.lemmas.List.Folds.{find-append}
-use Rattle.name_index.proofs.Firsts.{at_place}
+use Rattle.bm_records.specs.declared.raw.Header.{Header}
+use Rattle.bm_records.specs.declared.raw.HeaderType.{HeaderType}
+use Rattle.bm_records.specs.declared.raw.RawProgram.{RawProgram}
+use Rattle.bm_rules.specs.Fields.{header_named, fields_in, type_of, fields_of, field_among, field_by_names}
 
--- where the object is found, its image stands at its place
-pub laid_at : {X B : Type 0} (p : X → Bool) (f : X → B) (xs : List X) (layout : List (Bor B)) (i : ℕ) → map (λ x. x.now) layout ≡ map f xs → Some i ≡ position p xs
-    → option_map (λ x. x.now) (slice_get layout i) ≡ option_map f (find p xs)
-laid_at p f xs layout i laid e =
-    sym (slice_get-map (λ x. x.now) layout i) ∙ (ap (λ ys. slice_get ys i) laid ∙ (slice_get-map f xs i ∙ ap (option_map f) (at_place p xs (Some i) e)))
+in_type : (type : Option HeaderType) (field : List ℕ) → field_among field (fields_in type) ≡ option_and_then (λ t. field_among field t.fields) type
+in_type None field = refl
+in_type (Some type) field = refl
 
--- where no place is found, no object is
-pub laid_nowhere : {X B : Type 0} (p : X → Bool) (f : X → B) (xs : List X) → None ≡ position p xs → None ≡ option_map f (find p xs)
-laid_nowhere p f xs e = sym (ap (option_map f) (at_place p xs None e))
+by_header : (raw : RawProgram) (found : Option Header) (field : List ℕ) → option_and_then (field_among field) (option_map (fields_of raw) found) ≡ option_and_then (λ t. field_among field t.fields) (option_and_then (type_of raw) found)
+by_header raw None field = refl
+by_header raw (Some header) field = in_type (type_of raw header) field
+
+-- the field of the names of a header and of itself is one of the header's type
+pub field_by_type : (raw : RawProgram) (header field : List ℕ) → field_by_names raw header field ≡ option_and_then (λ t. field_among field t.fields) (option_and_then (type_of raw) (header_named raw header))
+field_by_type raw header field = by_header raw (header_named raw header) field
 
 -- what is found in two lists
 pub find_in_both : {X : Type 0} (p : X → Bool) (xs ys : List X) → find p (xs ++ ys) ≡ option_or (find p xs) (find p ys)

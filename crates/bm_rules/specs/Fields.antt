@@ -1,5 +1,5 @@
 -- What is read as a field, and the headers and fields that names stand for.
-use Rattle.std.specs.Prelude.{ℕ, Bool, true, not, ◌&&◌, if◌then◌else◌, List, [], map, Option, Some, None, is_some, option_and_then, option_map, nat_lt, sum_by, ◌+◌, ◌/◌, codes}
+use Rattle.std.specs.Prelude.{ℕ, Bool, true, not, ◌&&◌, if◌then◌else◌, List, [], Option, Some, None, is_some, option_and_then, option_map, nat_lt, sum_by, ◌+◌, ◌/◌, codes}
 use Rattle.std.specs.Str.{bytes_eq}
 use Rattle.bm_values.specs.declared.raw.Part.{Part}
 use Rattle.bm_values.specs.declared.raw.Part.TheVariants as parts
@@ -24,13 +24,13 @@ abbrev pub fields_in : Option HeaderType → List TypeField
 fields_in None = []
 fields_in (Some type) = type.fields
 
+-- the type of a header
+abbrev pub type_of : RawProgram → Header → Option HeaderType
+type_of raw header = named (λ type. type.name) header.header_type raw.header_types
+
 -- the fields of a header
 abbrev pub fields_of : RawProgram → Header → List TypeField
-fields_of raw header = fields_in (named (λ type. type.name) header.header_type raw.header_types)
-
--- the fields of all headers, in their order
-abbrev pub layout_of : RawProgram → List (List TypeField)
-layout_of raw = map (fields_of raw) raw.headers
+fields_of raw header = fields_in (type_of raw header)
 
 -- a field of some
 abbrev pub field_among : List ℕ → List TypeField → Option TypeField

@@ -9,8 +9,8 @@ use crate::scope::Scope;
 use crate::{fields, names, references};
 use bm_records::raw::{self, Datum, KeyField, RawProgram, TableKind};
 use bm_values::literals::width_bits;
-use list_types::{NoMemory, Text};
-use name_index::Index;
+use list_types::NoMemory;
+use name_index::{Index, Name};
 use p4_types::info::{
     Action, ActionProfile, ActionRef, Counter, Digest, Info, MatchField, MatchKind, Param, Table,
 };
@@ -49,7 +49,7 @@ fn keys_agree(scope: &Scope, keys: &[KeyField], fields: &[MatchField]) -> bool
     keys.len() == fields.len() && fields_agree(scope, keys, fields)
 }
 
-fn table_named<'a>(raw: &'a RawProgram, name: &str) -> Option<&'a raw::Table>
+fn table_named<'p, 'a>(raw: &'p RawProgram<'a>, name: &str) -> Option<&'p raw::Table<'a>>
     ensures { option_copied result ≡ table_named raw.now name.now }
 {
     names::named_in_both(
@@ -97,7 +97,7 @@ fn data_agree(runtime_data: &[Datum], params: &[Param]) -> bool
     runtime_data.len() == params.len() && widths_agree(runtime_data, params)
 }
 
-fn id_beside(wanted: &str, ids: &[u64], names: &Index<Text>) -> Option<u64>
+fn id_beside(wanted: &str, ids: &[u64], names: &Index<Name>) -> Option<u64>
     ensures { result ≡ id_beside wanted.now ids.now names.now }
 {
     match names.place_at(wanted) {
@@ -129,14 +129,14 @@ fn action_at<'a>(info: &'a Info, id: u32) -> Option<&'a Action>
 
 /// The actions of a table, found by their names.
 #[derive(Drop)]
-struct Actions<'a> {
-    table: &'a raw::Table,
-    names: Index<'a, Text>,
+struct Actions<'p, 'a> {
+    table: &'p raw::Table<'a>,
+    names: Index<'p, Name<'a>>,
     ghost of_table: { names ≡ table.now.actions },
 }
 
-impl<'a> Actions<'a> {
-    fn of(alloc: Global, table: &'a raw::Table) -> Result<Actions<'a>, NoMemory>
+impl<'p, 'a> Actions<'p, 'a> {
+    fn of(alloc: Global, table: &'p raw::Table<'a>) -> Result<Actions<'p, 'a>, NoMemory>
         ensures { IfOk result (λ actions. actions.table.now ≡ table.now) }
     {
         Ok(Actions {
@@ -243,7 +243,7 @@ fn is_of_kind(with_selector: bool, kind: TableKind) -> bool
     }
 }
 
-fn is_name(name: &str, given: &Option<Text>) -> bool
+fn is_name(name: &str, given: &Option<Name>) -> bool
     ensures { result ≡ is_name name.now given.now }
 {
     match given {

@@ -8,8 +8,8 @@ use crate::{graphs, names};
 use bm_records::raw::{
     Conditional, NextTable, ParseState, Parser, Pipeline, Pipelines, Table, Transition,
 };
-use list_types::{List, NoMemory, Text};
-use name_index::Index;
+use list_types::{List, NoMemory};
+use name_index::{Index, Name};
 use std::alloc::Global;
 
 fn push_place(edges: &mut List<usize>, place: Option<usize>) -> Result<(), NoMemory>
@@ -21,7 +21,7 @@ fn push_place(edges: &mut List<usize>, place: Option<usize>) -> Result<(), NoMem
     Ok(())
 }
 
-fn next_state(states: &[ParseState], name: &Option<Text>) -> Option<usize>
+fn next_state(states: &[ParseState], name: &Option<Name>) -> Option<usize>
     ensures { result ≡ next_state states.now name.now }
 {
     match name {
@@ -66,17 +66,17 @@ pub(crate) fn states_loop(alloc: Global, parser: &Parser) -> Result<bool, NoMemo
 
 /// A pipeline, with its nodes found by their names.
 #[derive(Drop)]
-struct Nodes<'a> {
-    pipeline: &'a Pipeline,
-    tables: Index<'a, Table>,
-    conditionals: Index<'a, Conditional>,
+struct Nodes<'p, 'a> {
+    pipeline: &'p Pipeline<'a>,
+    tables: Index<'p, Table<'a>>,
+    conditionals: Index<'p, Conditional<'a>>,
     ghost of_tables: { tables ≡ pipeline.now.tables },
     ghost of_conditionals: { conditionals ≡ pipeline.now.conditionals },
     ghost room: { length pipeline.now.tables + length pipeline.now.conditionals < 2 ^ 64 },
 }
 
-impl<'a> Nodes<'a> {
-    fn of(alloc: Global, pipeline: &'a Pipeline) -> Result<Nodes<'a>, NoMemory>
+impl<'p, 'a> Nodes<'p, 'a> {
+    fn of(alloc: Global, pipeline: &'p Pipeline<'a>) -> Result<Nodes<'p, 'a>, NoMemory>
         ensures { IfOk result (λ nodes. nodes.pipeline.now ≡ pipeline.now) }
     {
         Ok(Nodes {
@@ -87,7 +87,7 @@ impl<'a> Nodes<'a> {
     }
 }
 
-fn node_place(nodes: &Nodes, name: &Text) -> Option<usize>
+fn node_place(nodes: &Nodes, name: &Name) -> Option<usize>
     ensures { result ≡ node_place nodes.now.pipeline.now name.now }
 {
     if let Some(place) = nodes.tables.place(name) {
@@ -99,7 +99,7 @@ fn node_place(nodes: &Nodes, name: &Text) -> Option<usize>
     }
 }
 
-fn optional_node(nodes: &Nodes, name: &Option<Text>) -> Option<usize>
+fn optional_node(nodes: &Nodes, name: &Option<Name>) -> Option<usize>
     ensures { result ≡ optional_node nodes.now.pipeline.now name.now }
 {
     match name {

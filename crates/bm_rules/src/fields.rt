@@ -1,15 +1,14 @@
 //! Headers and fields by their names.
-ghost use Rattle.std.specs.Prelude.{◌≡◌, ◌+◌, ◌*◌, ◌/◌, ℕ, map, nat_lt, option_copied, option_map, sum_by};
-ghost use Rattle.bm_rules.specs.Names.{place_of};
-ghost use Rattle.bm_rules.specs.Fields.{header_named, has_header, fields_of, field_by_names, field_named, is_validity, is_readable, is_writable, is_part, bits_of_names, read_width, part_width};
+ghost use Rattle.std.specs.Prelude.{◌≡◌, ◌+◌, ◌*◌, ◌/◌, ℕ, map, nat_lt, option_copied, option_and_then, sum_by};
+ghost use Rattle.bm_rules.specs.Fields.{header_named, has_header, type_of, field_by_names, field_named, is_validity, is_readable, is_writable, is_part, bits_of_names, read_width, part_width};
 
 use crate::names;
 use crate::scope::Scope;
-use bm_records::raw::{FieldName, Header, Part, RawField, TypeField};
+use bm_records::raw::{FieldName, Header, HeaderType, Part, RawField, TypeField};
 use bm_values::literals::width_bits;
-use list_types::Text;
+use name_index::Name;
 
-pub(crate) fn header_named<'a>(scope: &Scope<'a>, name: &str) -> Option<&'a Header>
+pub(crate) fn header_named<'p, 'a>(scope: &Scope<'p, 'a>, name: &str) -> Option<&'p Header<'a>>
     ensures { option_copied result ≡ header_named scope.now.raw.now name.now }
 {
     names::named(scope.raw.headers.as_slice(), name)
@@ -23,7 +22,7 @@ pub(crate) fn has_header(scope: &Scope, name: &str) -> bool
 }
 
 /// Whether a header that is served is there.
-pub(crate) fn is_header(scope: &Scope, name: &Part<Text>) -> bool
+pub(crate) fn is_header(scope: &Scope, name: &Part<Name>) -> bool
     ensures { result ≡ is_part (has_header scope.now.raw.now) name.now }
 {
     match name {
@@ -32,26 +31,31 @@ pub(crate) fn is_header(scope: &Scope, name: &Part<Text>) -> bool
     }
 }
 
-/// The fields of the header of a name.
-fn fields_named<'a>(scope: &Scope<'a>, name: &str) -> Option<&'a [TypeField]>
-    ensures { option_map (λ fields. fields.now) result ≡ option_map (fields_of scope.now.raw.now) (header_named scope.now.raw.now name.now) }
+/// The type of the header of a name.
+fn type_of<'p, 'a>(scope: &Scope<'p, 'a>, name: &str) -> Option<&'p HeaderType<'a>>
+    ensures { option_copied result ≡ option_and_then (type_of scope.now.raw.now) (header_named scope.now.raw.now name.now) }
 {
-    match names::place_of(scope.raw.headers.as_slice(), name) {
+    match header_named(scope, name) {
         None => None,
-        Some(place) => scope.layout.get(place).copied(),
+        Some(header) => scope.types.named(&header.header_type),
     }
 }
 
-fn field_by_names<'a>(scope: &Scope<'a>, header: &str, field: &str) -> Option<&'a TypeField>
+#[tactic(auto, using(crate::proofs::Laid::field_by_type))]
+fn field_by_names<'p, 'a>(
+    scope: &Scope<'p, 'a>,
+    header: &str,
+    field: &str,
+) -> Option<&'p TypeField<'a>>
     ensures { option_copied result ≡ field_by_names scope.now.raw.now header.now field.now }
 {
-    match fields_named(scope, header) {
+    match type_of(scope, header) {
         None => None,
-        Some(fields) => names::named(fields, field),
+        Some(header_type) => names::named(header_type.fields.as_slice(), field),
     }
 }
 
-fn field_named<'a>(scope: &Scope<'a>, name: &FieldName) -> Option<&'a TypeField>
+fn field_named<'p, 'a>(scope: &Scope<'p, 'a>, name: &FieldName) -> Option<&'p TypeField<'a>>
     ensures { option_copied result ≡ field_named scope.now.raw.now name.now }
 {
     field_by_names(scope, name.header.as_str(), name.field.as_str())

@@ -6,13 +6,14 @@ ghost use Rattle.bm_rules.specs.References.{optional_name, node_names, table_nex
 
 use crate::names;
 use bm_records::raw::{Checksum, Conditional, NextTable, Pipeline, RawProgram, Table};
-use list_types::{NoMemory, Text};
+use list_types::NoMemory;
+use name_index::Name;
 use std::alloc::Global;
 
 /// Adds a name where there is one.
 pub(crate) fn push_optional<'a>(
     names: &mut Vec<&'a str>,
-    name: &'a Option<Text>,
+    name: &'a Option<Name>,
 ) -> Result<(), NoMemory>
     ensures { OnOk result (map (λ x. x.now) names.new.items ≡ map (λ x. x.now) names.old.items ++ optional_name name.now) }
 {
@@ -88,7 +89,7 @@ fn push_calculations<'a>(
     Ok(())
 }
 
-fn nexts(alloc: Global, pipeline: &Pipeline) -> Result<Vec<&str>, NoMemory>
+fn nexts<'a>(alloc: Global, pipeline: &'a Pipeline) -> Result<Vec<&'a str>, NoMemory>
     ensures { IfOk result (λ names. map (λ x. x.now) names.items ≡ nexts pipeline.now) }
 {
     let mut names = Vec::new(alloc);
@@ -98,7 +99,7 @@ fn nexts(alloc: Global, pipeline: &Pipeline) -> Result<Vec<&str>, NoMemory>
     Ok(names)
 }
 
-fn node_names(alloc: Global, pipeline: &Pipeline) -> Result<Vec<&str>, NoMemory>
+fn node_names<'a>(alloc: Global, pipeline: &'a Pipeline) -> Result<Vec<&'a str>, NoMemory>
     ensures { IfOk result (λ names. map (λ x. x.now) names.items ≡ node_names pipeline.now) }
 {
     let mut names = Vec::new(alloc);

@@ -12,7 +12,8 @@ use bm_records::raw::{
     Expression, Header, KeyField, LearnList, LearnListName, Node, ParseState, ParserOp, Part,
     Pipeline, Primitive, RawField, RawProgram, Selector, Table, Transition,
 };
-use list_types::{NoMemory, Text};
+use list_types::NoMemory;
+use name_index::Name;
 use std::alloc::Global;
 
 fn is_known(scope: &Scope, args: usize, expression: &Expression) -> bool
@@ -40,7 +41,7 @@ fn have_one_type(target: Option<&Header>, source: Option<&Header>) -> bool
     }
 }
 
-fn are_of_one_type(scope: &Scope, target: &Part<Text>, source: &Part<Text>) -> bool
+fn are_of_one_type(scope: &Scope, target: &Part<Name>, source: &Part<Name>) -> bool
     ensures { result ≡ are_of_one_type scope.now.raw.now target.now source.now }
 {
     match (target, source) {
@@ -53,7 +54,7 @@ fn are_of_one_type(scope: &Scope, target: &Part<Text>, source: &Part<Text>) -> b
     }
 }
 
-fn has_counter(scope: &Scope, name: &Part<Text>) -> bool
+fn has_counter(scope: &Scope, name: &Part<Name>) -> bool
     ensures { result ≡ is_part (has_counter scope.now.raw.now) name.now }
 {
     match name {
@@ -150,7 +151,7 @@ fn are_read(scope: &Scope, names: &[RawField]) -> bool
     names.iter().all(|name| fields::is_read(scope, name))
 }
 
-fn next_state_known(scope: &Scope, name: &Option<Text>) -> bool
+fn next_state_known(scope: &Scope, name: &Option<Name>) -> bool
     ensures { result ≡ next_state_known scope.now.raw.now name.now }
 {
     match name {
@@ -236,7 +237,7 @@ fn lists_known(scope: &Scope, lists: &[LearnList]) -> bool
 }
 
 /// The action of an id.
-pub(crate) fn action_by_id<'a>(raw: &'a RawProgram, id: u64) -> Option<&'a Action>
+pub(crate) fn action_by_id<'p, 'a>(raw: &'p RawProgram<'a>, id: u64) -> Option<&'p Action<'a>>
     ensures { option_copied result ≡ action_by_id raw.now id }
 {
     raw.actions.as_slice().iter().find(|action| action.id == id)
@@ -251,7 +252,7 @@ fn has_name(raw: &RawProgram, id: u64, name: &str) -> bool
     }
 }
 
-fn pairs_known(raw: &RawProgram, ids: &[u64], names: &[Text]) -> bool
+fn pairs_known(raw: &RawProgram, ids: &[u64], names: &[Name]) -> bool
     ensures { result ≡ pairs_known raw.now ids.now names.now }
 {
     ids.iter()
@@ -271,7 +272,7 @@ fn default_known(raw: &RawProgram, entry: &Option<DefaultEntry>) -> bool
     }
 }
 
-fn profile_known(raw: &RawProgram, name: &Option<Text>) -> bool
+fn profile_known(raw: &RawProgram, name: &Option<Name>) -> bool
     ensures { result ≡ profile_known raw.now name.now }
 {
     match name {
@@ -355,7 +356,7 @@ fn types_known(scope: &Scope, headers: &[Header]) -> bool
     headers.iter().all(|header| type_known(scope, header))
 }
 
-fn order_known(scope: &Scope, order: &[Text]) -> bool
+fn order_known(scope: &Scope, order: &[Name]) -> bool
     ensures { result ≡ list_all (has_header scope.now.raw.now) order.now }
 {
     order

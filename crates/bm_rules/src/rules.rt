@@ -1,33 +1,14 @@
 //! The rules L4 to L15, and the first one that a program breaks.
-ghost use Rattle.std.specs.Prelude.{◌≡◌, map, IfOk, OnOk};
-ghost use Rattle.bm_rules.specs.Fields.{fields_of, layout_of};
+ghost use Rattle.std.specs.Prelude.{◌≡◌, IfOk};
 ghost use Rattle.bm_rules.specs.Flaw.{flaw, later_flaw};
 
 use crate::scope::Scope;
 use crate::{agreement, edges, keys, names, operations, references, twice};
-use bm_records::raw::{Header, RawProgram, TypeField};
+use bm_records::raw::RawProgram;
 use list_types::NoMemory;
+use name_index::Index;
 use p4_types::info::Info;
 use std::alloc::Global;
-
-fn fields_of<'a>(raw: &'a RawProgram, header: &Header) -> &'a [TypeField]
-    ensures { result.now ≡ fields_of raw.now header.now }
-{
-    match names::named(raw.header_types.as_slice(), header.header_type.as_str()) {
-        Some(header_type) => header_type.fields.as_slice(),
-        None => &[],
-    }
-}
-
-fn layout_of<'a>(alloc: Global, raw: &'a RawProgram) -> Result<Vec<&'a [TypeField]>, NoMemory>
-    ensures { IfOk result (λ layout. map (λ fields. fields.now) layout.items ≡ layout_of raw.now) }
-{
-    let mut layout = Vec::new(alloc);
-    for header in raw.headers.as_slice() {
-        layout.push(fields_of(raw, header))?;
-    }
-    Ok(layout)
-}
 
 // The first of L8 to L15.
 fn later_flaw(alloc: Global, scope: &Scope, info: &Info) -> Result<Option<u8>, NoMemory>
@@ -89,10 +70,7 @@ fn flaw_in(alloc: Global, scope: &Scope, info: &Info) -> Result<Option<u8>, NoMe
 pub fn flaw(alloc: Global, raw: &RawProgram, info: &Info) -> Result<Option<u8>, NoMemory>
     ensures { IfOk result (λ rule. rule ≡ flaw raw.now info.now) }
 {
-    let layout = layout_of(alloc, raw)?;
-    let scope = Scope {
-        raw,
-        layout: layout.as_slice(),
-    };
+    let types = Index::of(alloc, raw.header_types.as_slice())?;
+    let scope = Scope { raw, types };
     flaw_in(alloc, &scope, info)
 }

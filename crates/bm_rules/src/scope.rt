@@ -1,13 +1,13 @@
-//! A program, and the fields of its headers.
-ghost use Rattle.std.specs.Prelude.{◌≡◌, map};
-ghost use Rattle.bm_rules.specs.Fields.{layout_of};
+//! A program, with its header types found by their names.
+ghost use Rattle.std.specs.Prelude.{◌≡◌};
 
-use bm_records::raw::{RawProgram, TypeField};
+use bm_records::raw::{HeaderType, RawProgram};
+use name_index::Index;
 
-/// A program with the fields of each of its headers, in their order.
+/// A program, with its header types found by their names.
 #[derive(Drop)]
-pub(crate) struct Scope<'a> {
-    pub raw: &'a RawProgram,
-    pub layout: &'a [&'a [TypeField]],
-    ghost laid: { map (λ fields. fields.now) layout.now ≡ layout_of raw.now },
+pub(crate) struct Scope<'p, 'a> {
+    pub raw: &'p RawProgram<'a>,
+    pub types: Index<'p, HeaderType<'a>>,
+    ghost of_types: { types ≡ raw.now.header_types },
 }

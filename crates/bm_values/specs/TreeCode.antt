@@ -1,13 +1,12 @@
 -- How the logic stores a tree: its nodes in a row, each behind its operands.
 use Rattle.std.specs.Prelude.{◌≡◌, ℕ, ◌⊎◌, Bool, List, [], ◌∷◌, ◌++◌, Option, Some, None, refl}
 use Rattle.std.proofs.Common.{inl, inr, append_assoc, ap, sym, ◌∙◌}
-use Rattle.std.specs.Coded.{Coded, code_by, coded_ℕ, coded_bool, coded_list, coded_option, coded⊎}
+use Rattle.std.specs.Coded.{Coded, code_by, coded_ℕ, coded_bool, coded_list, coded_option, coded×, coded⊎}
 use Rattle.bm_values.specs.declared.raw.Part.{Part}
 use Rattle.bm_values.specs.declared.raw.Part.TheVariants as parts
 use Rattle.bm_values.specs.declared.raw.FieldName.{FieldName}
 use Rattle.bm_values.specs.declared.raw.UnaryOperator.{UnaryOperator}
 use Rattle.bm_values.specs.declared.raw.BinaryOperator.{BinaryOperator}
-use Rattle.bm_values.specs.contracts.raw.FieldName as field_names
 use Rattle.bm_values.specs.contracts.raw.UnaryOperator as unary_operators
 use Rattle.bm_values.specs.contracts.raw.BinaryOperator as binary_operators
 use Rattle.bm_values.specs.Trees.{Tree, field, literal, truth, datum, valid, unary, binary, choice, left_out, unknown}
@@ -16,9 +15,13 @@ use Rattle.bm_values.specs.Trees.{Tree, field, literal, truth, datum, valid, una
 abbrev pub Symbol : Type 0
 Symbol = FieldName ⊎ (Option ℕ ⊎ (Bool ⊎ (ℕ ⊎ (Option (List ℕ) ⊎ (UnaryOperator ⊎ (Option BinaryOperator ⊎ Option (List ℕ)))))))
 
+-- the names of a field are stored as a pair
+abbrev pub field_code : Coded FieldName
+field_code = code_by (List ℕ × List ℕ) (coded× (coded_list coded_ℕ) (coded_list coded_ℕ)) (λ f. (f.header, f.field)) (λ p. record { header = p.0; field = p.1 }) (λ _. refl)
+
 abbrev pub symbol_code : Coded Symbol
 symbol_code =
-    coded⊎ (field_names.the_row).coded (coded⊎ (coded_option coded_ℕ) (coded⊎ coded_bool (coded⊎ coded_ℕ (coded⊎ (coded_option (coded_list coded_ℕ)) (coded⊎ (unary_operators.the_row).coded (coded⊎ (coded_option (binary_operators.the_row).coded)
+    coded⊎ field_code (coded⊎ (coded_option coded_ℕ) (coded⊎ coded_bool (coded⊎ coded_ℕ (coded⊎ (coded_option (coded_list coded_ℕ)) (coded⊎ (unary_operators.the_row).coded (coded⊎ (coded_option (binary_operators.the_row).coded)
     (coded_option (coded_list coded_ℕ))))))))
 
 abbrev option_of : {A : Type 0} → Part A → Option A

@@ -1,6 +1,6 @@
 //! Expressions, read as trees.
 ghost use Rattle.std.specs.Prelude.{◌≡◌, Some};
-ghost use Rattle.serde_json.specs.View.{view};
+ghost use Rattle.json_tree.specs.View.{view};
 ghost use Rattle.json_shapes.specs.Shapes.{Reads};
 ghost use Rattle.bm_values.specs.Kinds.{operation_of};
 ghost use Rattle.bm_values.specs.Expressions.{inside, operand, unary_of, binary_of, choice_of, valid_of, not_served, operation_with, operation, value_with, tree_with, tree_of, IsRecursion, expression_of};
@@ -8,28 +8,27 @@ ghost use Rattle.bm_values.specs.Expressions.{inside, operand, unary_of, binary_
 use crate::kinds::{self, Operation, ValueKind};
 use crate::raw::{BinaryOperator, Expression, Node, UnaryOperator};
 use crate::values;
-use json_shapes::OtherShape;
 use json_shapes::shapes::{self, FromJson};
-use list_types::{Refusal, Text};
-use serde_json::Value;
+use json_shapes::{Name, OtherShape};
+use json_tree::Element;
+use list_types::Refusal;
 use std::alloc::Global;
 
-fn not_served(alloc: Global, op: &str) -> Result<Expression, Refusal<OtherShape>>
-    ensures { Reads result (Some (not_served op.now)) }
+fn not_served(op: &str) -> Expression<'_>
+    ensures { result ≡ not_served op.now }
 {
     if kinds::is_left_out_operator(op) {
-        return Ok(Expression {
+        return Expression {
             node: Node::LeftOut,
-        });
+        };
     }
-    let op = String::from_str(alloc, op)?;
-    Ok(Expression {
-        node: Node::Unknown(Text::from_string(op)),
-    })
+    Expression {
+        node: Node::Unknown(Name::of(op)),
+    }
 }
 
 #[tactic(auto, unfolding(crate::specs::Expressions::valid_of))]
-fn valid(alloc: Global, value: &Value) -> Result<Expression, Refusal<OtherShape>>
+fn valid<'a>(alloc: Global, value: &Element<'a>) -> Result<Expression<'a>, Refusal<OtherShape>>
     ensures { Reads result (valid_of (view value.now)) }
 {
     shapes::null(value, "left")?;
@@ -41,34 +40,42 @@ fn valid(alloc: Global, value: &Value) -> Result<Expression, Refusal<OtherShape>
 
 #[cycle(trees)]
 #[tactic(auto, using(crate::proofs::Recursion::lower))]
-fn member(alloc: Global, value: &Value, name: &str) -> Result<Expression, Refusal<OtherShape>>
+fn member<'a>(
+    alloc: Global,
+    value: &Element<'a>,
+    name: &str,
+) -> Result<Expression<'a>, Refusal<OtherShape>>
     ensures { Reads result (inside (view value.now) name.now) }
 {
     match value.get(name) {
-        Some(member) => tree(alloc, member),
+        Some(member) => tree(alloc, &member),
         None => Err(Refusal::For(OtherShape)),
     }
 }
 
 #[cycle(trees)]
 #[tactic(auto, unfolding(crate::specs::Expressions::operand, json_shapes::specs::Shapes::required), using(crate::proofs::Recursion::lower))]
-fn operand(alloc: Global, value: &Value, name: &str) -> Result<Expression, Refusal<OtherShape>>
+fn operand<'a>(
+    alloc: Global,
+    value: &Element<'a>,
+    name: &str,
+) -> Result<Expression<'a>, Refusal<OtherShape>>
     ensures { Reads result (operand (inside (view value.now)) name.now (view value.now)) }
 {
     let Some(inside) = value.get(name) else {
         return Err(Refusal::For(OtherShape));
     };
-    values::kind_of(inside)?;
-    tree(alloc, inside)
+    values::kind_of(&inside)?;
+    tree(alloc, &inside)
 }
 
 #[cycle(trees)]
 #[tactic(auto, unfolding(crate::specs::Expressions::unary_of))]
-fn unary(
+fn unary<'a>(
     alloc: Global,
     operator: UnaryOperator,
-    value: &Value,
-) -> Result<Expression, Refusal<OtherShape>>
+    value: &Element<'a>,
+) -> Result<Expression<'a>, Refusal<OtherShape>>
     ensures { Reads result (unary_of (inside (view value.now)) operator (view value.now)) }
 {
     shapes::null(value, "left")?;
@@ -80,11 +87,11 @@ fn unary(
 
 #[cycle(trees)]
 #[tactic(auto, unfolding(crate::specs::Expressions::binary_of))]
-fn binary(
+fn binary<'a>(
     alloc: Global,
     operator: BinaryOperator,
-    value: &Value,
-) -> Result<Expression, Refusal<OtherShape>>
+    value: &Element<'a>,
+) -> Result<Expression<'a>, Refusal<OtherShape>>
     ensures { Reads result (binary_of (inside (view value.now)) operator (view value.now)) }
 {
     let left = Box::new(alloc, operand(alloc, value, "left")?)?;
@@ -96,7 +103,7 @@ fn binary(
 
 #[cycle(trees)]
 #[tactic(auto, unfolding(crate::specs::Expressions::choice_of))]
-fn choice(alloc: Global, value: &Value) -> Result<Expression, Refusal<OtherShape>>
+fn choice<'a>(alloc: Global, value: &Element<'a>) -> Result<Expression<'a>, Refusal<OtherShape>>
     ensures { Reads result (choice_of (inside (view value.now)) (view value.now)) }
 {
     let condition = Box::new(alloc, operand(alloc, value, "cond")?)?;
@@ -108,7 +115,11 @@ fn choice(alloc: Global, value: &Value) -> Result<Expression, Refusal<OtherShape
 }
 
 #[cycle(trees)]
-fn operation_with(alloc: Global, op: &str, value: &Value) -> Result<Expression, Refusal<OtherShape>>
+fn operation_with<'a>(
+    alloc: Global,
+    op: &'a str,
+    value: &Element<'a>,
+) -> Result<Expression<'a>, Refusal<OtherShape>>
     ensures { Reads result (operation_with (inside (view value.now)) (operation_of op.now) op.now (view value.now)) }
 {
     match kinds::operation_of(op) {
@@ -116,13 +127,13 @@ fn operation_with(alloc: Global, op: &str, value: &Value) -> Result<Expression, 
         Some(Operation::Binary(operator)) => binary(alloc, operator, value),
         Some(Operation::Valid) => valid(alloc, value),
         Some(Operation::Choice) => choice(alloc, value),
-        None => not_served(alloc, op),
+        None => Ok(not_served(op)),
     }
 }
 
 #[cycle(trees)]
 #[tactic(auto, unfolding(crate::specs::Expressions::operation, json_shapes::specs::Shapes::required))]
-fn operation(alloc: Global, value: &Value) -> Result<Expression, Refusal<OtherShape>>
+fn operation<'a>(alloc: Global, value: &Element<'a>) -> Result<Expression<'a>, Refusal<OtherShape>>
     ensures { Reads result (operation (inside (view value.now)) (view value.now)) }
 {
     let Some(op) = value.get("op") else {
@@ -135,11 +146,11 @@ fn operation(alloc: Global, value: &Value) -> Result<Expression, Refusal<OtherSh
 }
 
 #[cycle(trees)]
-fn value_with(
+fn value_with<'a>(
     alloc: Global,
     kind: ValueKind,
-    value: &Value,
-) -> Result<Expression, Refusal<OtherShape>>
+    value: &Element<'a>,
+) -> Result<Expression<'a>, Refusal<OtherShape>>
     ensures { Reads result (value_with (inside (view value.now)) kind (view value.now)) }
 {
     let node = match kind {
@@ -156,7 +167,7 @@ fn value_with(
 
 #[cycle(trees)]
 #[tactic(auto, unfolding(crate::specs::Expressions::tree_with), using(crate::proofs::Recursion::recursion))]
-fn tree(alloc: Global, value: &Value) -> Result<Expression, Refusal<OtherShape>>
+fn tree<'a>(alloc: Global, value: &Element<'a>) -> Result<Expression<'a>, Refusal<OtherShape>>
     ensures { Reads result (tree_of (view value.now)) }
 {
     if value.get("type").is_some() {
@@ -167,13 +178,20 @@ fn tree(alloc: Global, value: &Value) -> Result<Expression, Refusal<OtherShape>>
     }
 }
 
-impl FromJson for Expression {
+impl<'a> FromJson<'a> for Expression<'a> {
     ghost shape = { expression_of };
 
     #[tactic(auto, unfolding(crate::specs::Expressions::expression_of))]
-    fn from_json(alloc: Global, value: &Value) -> Result<Expression, Refusal<OtherShape>> {
+    fn from_json(
+        alloc: Global,
+        value: &Element<'a>,
+    ) -> Result<Expression<'a>, Refusal<OtherShape>> {
         values::kind_of(value)?;
         tree(alloc, value)
+    }
+
+    fn may_be(value: &Element<'a>) -> bool {
+        shapes::has(value, "type")
     }
 }
 

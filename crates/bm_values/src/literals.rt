@@ -1,14 +1,14 @@
 //! Literals and widths.
 ghost use Rattle.std.specs.Prelude.{◌≡◌, ◌<◌, ◌≤◌, length, IfSome};
-ghost use Rattle.serde_json.specs.View.{view};
+ghost use Rattle.json_tree.specs.View.{view};
 ghost use Rattle.json_shapes.specs.Shapes.{Reads};
 ghost use Rattle.bm_values.specs.Literals.{hex_digit, hex_number, are_hex_digits, hex_literal, literal_text, literal_of, width_in, width_of, field_width_of, width_bits};
 
 use crate::raw::{FieldWidth, Part, RawLiteral, RawWidth};
 use json_shapes::OtherShape;
 use json_shapes::shapes::FromJson;
+use json_tree::Element;
 use list_types::Refusal;
-use serde_json::Value;
 use std::alloc::Global;
 
 fn hex_digit(byte: u8) -> Option<u8>
@@ -71,16 +71,23 @@ pub fn literal_text(text: &[u8]) -> Option<RawLiteral>
     }
 }
 
-impl FromJson for RawLiteral {
+impl<'a> FromJson<'a> for RawLiteral {
     ghost shape = { literal_of };
 
-    fn from_json(_alloc: Global, value: &Value) -> Result<RawLiteral, Refusal<OtherShape>> {
+    fn from_json(_alloc: Global, value: &Element<'a>) -> Result<RawLiteral, Refusal<OtherShape>> {
         let Some(text) = value.as_str() else {
             return Err(Refusal::For(OtherShape));
         };
         match literal_text(text.as_bytes()) {
             Some(literal) => Ok(literal),
             None => Err(Refusal::For(OtherShape)),
+        }
+    }
+
+    fn may_be(value: &Element<'a>) -> bool {
+        match value.as_str() {
+            Some(text) => text.len() > 2,
+            None => false,
         }
     }
 }
@@ -107,10 +114,10 @@ pub fn width_bits(width: &RawWidth) -> u32
     }
 }
 
-impl FromJson for RawWidth {
+impl<'a> FromJson<'a> for RawWidth {
     ghost shape = { width_of };
 
-    fn from_json(_alloc: Global, value: &Value) -> Result<RawWidth, Refusal<OtherShape>> {
+    fn from_json(_alloc: Global, value: &Element<'a>) -> Result<RawWidth, Refusal<OtherShape>> {
         let Some(bits) = value.as_u64() else {
             return Err(Refusal::For(OtherShape));
         };
@@ -119,12 +126,16 @@ impl FromJson for RawWidth {
             None => Err(Refusal::For(OtherShape)),
         }
     }
+
+    fn may_be(value: &Element<'a>) -> bool {
+        value.as_u64().is_some()
+    }
 }
 
-impl FromJson for FieldWidth {
+impl<'a> FromJson<'a> for FieldWidth {
     ghost shape = { field_width_of };
 
-    fn from_json(alloc: Global, value: &Value) -> Result<FieldWidth, Refusal<OtherShape>> {
+    fn from_json(alloc: Global, value: &Element<'a>) -> Result<FieldWidth, Refusal<OtherShape>> {
         if let Some(text) = value.as_str() {
             return if text == "*" {
                 Ok(FieldWidth {
@@ -136,5 +147,9 @@ impl FromJson for FieldWidth {
         }
         let width = RawWidth::from_json(alloc, value)?;
         Ok(FieldWidth { width })
+    }
+
+    fn may_be(value: &Element<'a>) -> bool {
+        value.as_u64().is_some() || value.as_str().is_some()
     }
 }

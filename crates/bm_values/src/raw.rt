@@ -1,6 +1,6 @@
 //! Values, literals, widths and expressions: what a program's JSON says, with references by name. A number or a form that
 //! the switch does not serve stands as left out, an operation that the profile does not know by its name.
-use list_types::Text;
+use json_shapes::Name;
 use std::marker::Model;
 
 /// What is served, or a form that is left out.
@@ -24,13 +24,13 @@ pub type RawLiteral = Part<u128>;
 
 /// A field of a header, by the names of both.
 #[derive(Drop)]
-pub struct FieldName {
-    pub header: Text,
-    pub field: Text,
+pub struct FieldName<'a> {
+    pub header: Name<'a>,
+    pub field: Name<'a>,
 }
 
 /// A field; one of a stack or a union, and what is looked up ahead, is left out.
-pub type RawField = Part<FieldName>;
+pub type RawField<'a> = Part<FieldName<'a>>;
 
 /// An operator with one operand.
 #[derive(Clone, Copy)]
@@ -67,31 +67,31 @@ pub enum BinaryOperator {
 /// An expression. Contracts see it as a `Tree` of specs/Trees.antt.
 #[cycle(expression)]
 #[derive(Drop)]
-pub struct Expression {
-    pub node: Node,
+pub struct Expression<'a> {
+    pub node: Node<'a>,
 }
 
 /// The root of an expression.
 #[cycle(expression)]
 #[derive(Drop)]
-pub enum Node {
-    Field(FieldName),
+pub enum Node<'a> {
+    Field(FieldName<'a>),
     Literal(RawLiteral),
     Truth(bool),
     /// The action's datum with this index.
     Datum(u64),
     /// `valid` of a header.
-    Valid(Part<Text>),
-    Unary(UnaryOperator, Box<Expression>),
-    Binary(BinaryOperator, Box<Expression>, Box<Expression>),
+    Valid(Part<Name<'a>>),
+    Unary(UnaryOperator, Box<Expression<'a>>),
+    Binary(BinaryOperator, Box<Expression<'a>>, Box<Expression<'a>>),
     /// `?`: a condition, what is chosen where it holds, and what is chosen where not.
-    Choice(Box<Expression>, Box<Expression>, Box<Expression>),
+    Choice(Box<Expression<'a>>, Box<Expression<'a>>, Box<Expression<'a>>),
     LeftOut,
     /// An operation of a name that is not known.
-    Unknown(Text),
+    Unknown(Name<'a>),
 }
 
-impl Model for Expression {
+impl<'a> Model for Expression<'a> {
     ghost use Rattle.bm_values.specs.Trees.{Tree};
     ghost use Rattle.bm_values.specs.TreeCode.{tree_code};
 

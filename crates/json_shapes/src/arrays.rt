@@ -1,18 +1,18 @@
 //! Arrays of a known number of items.
 ghost use Rattle.std.specs.Prelude.{◌≡◌, Some};
-ghost use Rattle.serde_json.specs.View.{view};
+ghost use Rattle.json_tree.specs.View.{view};
 ghost use Rattle.json_shapes.specs.Shapes.{ReadsExactly, Reads};
 ghost use Rattle.json_shapes.specs.Arrays.{item_count, item_at, of_count, only_of};
 
 use crate::errors::OtherShape;
 use crate::shapes::FromJson;
+use json_tree::Element;
 use list_types::Refusal;
-use serde_json::Value;
 use std::alloc::Global;
 
 /// How many items an array has.
-#[tactic(auto, unfolding(crate::specs::Arrays::item_count), using(crate::proofs::Counts::count_of_view))]
-pub fn item_count(value: &Value) -> Result<usize, OtherShape>
+#[tactic(auto, unfolding(crate::specs::Arrays::item_count), using(crate::proofs::Counts::count_of_items))]
+pub fn item_count(value: &Element<'_>) -> Result<usize, OtherShape>
     ensures { ReadsExactly result (item_count (view value.now)) }
 {
     match value.as_array() {
@@ -23,15 +23,15 @@ pub fn item_count(value: &Value) -> Result<usize, OtherShape>
 
 /// An item of an array.
 #[tactic(auto, unfolding(crate::specs::Arrays::item_at))]
-pub fn item_at<T: FromJson>(
+pub fn item_at<'a, T: FromJson<'a>>(
     alloc: Global,
-    value: &Value,
+    value: &Element<'a>,
     place: usize,
 ) -> Result<T, Refusal<OtherShape>>
     ensures { Reads result (item_at T.shape place (view value.now)) }
 {
-    match value.get(place) {
-        Some(item) => T::from_json(alloc, item),
+    match value.at(place) {
+        Some(item) => T::from_json(alloc, &item),
         None => Err(Refusal::For(OtherShape)),
     }
 }
@@ -53,14 +53,18 @@ pub struct Only<T> {
     pub only: T,
 }
 
-impl<T: FromJson> FromJson for Only<T> {
+impl<'a, T: FromJson<'a>> FromJson<'a> for Only<T> {
     ghost shape = { only_of T.shape };
 
     #[tactic(auto, unfolding(crate::specs::Arrays::only_of))]
-    fn from_json(alloc: Global, value: &Value) -> Result<Only<T>, Refusal<OtherShape>> {
+    fn from_json(alloc: Global, value: &Element<'a>) -> Result<Only<T>, Refusal<OtherShape>> {
         let count = item_count(value)?;
         of_count(1, count)?;
         let only = item_at(alloc, value, 0)?;
         Ok(Only { only })
+    }
+
+    fn may_be(value: &Element<'a>) -> bool {
+        value.is_array()
     }
 }

@@ -6,3 +6,4 @@ mod errors;
 pub mod shapes;
 
 pub use errors::OtherShape;
+pub use name_index::Name;

@@ -16,7 +16,8 @@ fn tell_program(
     program: &str,
     told: &mut String,
 ) -> Result<(), NoAnswer> {
-    match read_json(alloc, program.as_bytes()) {
+    let mut place = None;
+    match read_json(alloc, program.as_bytes(), &mut place) {
         Ok(raw) => {
             match bm_rules::flaw(alloc, &raw, info.info())? {
                 Some(rule) => tell(told, rule),

@@ -2,7 +2,7 @@
 ghost use Rattle.std.specs.Prelude.{◌≡◌, ℕ};
 ghost use Rattle.std.specs.Prelude as spec;
 
-use list_types::Text;
+use crate::names::Name;
 use p4_types::info;
 
 /// An object that is looked up by its name.
@@ -13,8 +13,8 @@ pub trait Labelled {
         ensures { result.now ≡ label self.now };
 }
 
-impl Labelled for Text {
-    ghost label = { λ text. text };
+impl<'a> Labelled for Name<'a> {
+    ghost label = { λ name. name };
 
     fn name(&self) -> &str {
         self.as_str()

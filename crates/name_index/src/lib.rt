@@ -3,6 +3,8 @@
 
 mod labels;
 mod lookup;
+mod names;
 
 pub use labels::Labelled;
 pub use lookup::{Index, put_first};
+pub use names::Name;

@@ -4,7 +4,8 @@ ghost use Rattle.name_index.specs.Names.{named, place_of};
 ghost use Rattle.name_index.specs.Places.{ArePlaces, PutsFirst};
 
 use crate::labels::Labelled;
-use list_types::{NoMemory, Text};
+use crate::names::Name;
+use list_types::NoMemory;
 use std::alloc::Global;
 use std::collections::BTreeMap;
 use std::marker::Model;
@@ -91,16 +92,16 @@ impl<'a, T: Labelled> Index<'a, T> {
         found(&self.places, self.objects, name)
     }
 
-    /// The same place by a text.
-    pub fn place(&self, name: &Text) -> Option<usize>
+    /// The same place, by a name.
+    pub fn place(&self, name: &Name) -> Option<usize>
         ensures place { result ≡ place_of T.label name.now self.now }
         ensures inside { IfSome result (λ place. place < length self.now) }
     {
         self.place_at(name.as_str())
     }
 
-    /// The same object by a text.
-    pub fn named(&self, name: &Text) -> Option<&'a T>
+    /// The same object, by a name.
+    pub fn named(&self, name: &Name) -> Option<&'a T>
         ensures { option_copied result ≡ named T.label name.now self.now }
     {
         self.named_at(name.as_str())

@@ -18,7 +18,8 @@ fn tell_fault(told: &mut String, fault: &JsonFault) {
 
 // Adds `ok`, or the rule that a program breaks first.
 fn tell_program(alloc: Global, program: &str, told: &mut String) -> Result<(), NoAnswer> {
-    match read_json(alloc, program.as_bytes()) {
+    let mut place = None;
+    match read_json(alloc, program.as_bytes(), &mut place) {
         Ok(_program) => {
             say(told, "ok");
             Ok(())

@@ -1,8 +1,5 @@
-use Rattle.std.proofs.Common.{sym, subst}
-use Rattle.link_spec.specs.Flaw.{program_flaw}
-use Rattle.bm_link.specs.Links.{IsRefused}
 use Rattle.bm_json.proofs.ReadSound.{program_in_sound}
-use Rattle.bm_link.proofs.Answered.{links, within, refused}
+use Rattle.bm_link.proofs.Answered.{links, within}
 use Rattle.bm_link.proofs.pipelines.link.Goals as goal
 
 pub link_raw-requires-clause-sound : goal.link_raw-requires-clause-sound
@@ -13,6 +10,3 @@ link_raw-requires-clause-within c = within c.args.json.now c.in-Ok.raw c.in-Ok.e
 
 pub returns-in-Ok : goal.returns-in-Ok
 returns-in-Ok c = links c.args.json.now c.args.info.now c.in-Ok.raw c.link_raw.result c.in-Ok.ensures.0 c.in-Ok.ensures.1 c.link_raw.ensures
-
-pub returns-in-Err : goal.returns-in-Err
-returns-in-Err c = subst (λ r. IsRefused r (program_flaw c.args.json.now c.args.info.now)) (sym c.refusal_of.ensures) (refused c.args.json.now c.args.info.now c.in-Err.refusal c.in-Err.ensures)

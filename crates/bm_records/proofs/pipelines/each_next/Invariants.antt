@@ -1,5 +1,5 @@
 use Rattle.std.proofs.Common.{◌≡◌, ◌++◌, Some}
-use Rattle.serde_json.specs.View.{members_view}
+use Rattle.bm_records.specs.Members.{members_view}
 use Rattle.list_types.specs.Options.{◌>>=◌}
 use Rattle.bm_records.specs.Pipelines.{each_next}
 use Rattle.bm_records.proofs.pipelines.each_next.Given as goal

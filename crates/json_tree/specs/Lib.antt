@@ -1,0 +1,3 @@
+pub mod Nodes
+pub mod View
+pub mod Building
