@@ -1,3 +1,4 @@
 pub mod Nexts
+pub mod FirstOfName
 pub mod KeptSteps
 pub mod Together

@@ -4,3 +4,4 @@ pub mod Parsers
 pub mod Objects
 pub mod Members
 pub mod Pipelines
+pub mod Firsts

@@ -1,9 +1,10 @@
 //! Tables, action profiles, conditionals and pipelines.
-ghost use Rattle.std.specs.Prelude.{◌≡◌, length, IfOk, IfErr};
+ghost use Rattle.std.specs.Prelude.{◌≡◌, length, All, IfOk, IfErr};
 ghost use Rattle.serde_json.specs.Data.{no_members};
 ghost use Rattle.json_tree.specs.Nodes.{puts};
 ghost use Rattle.json_tree.specs.View.{view, items_in};
-ghost use Rattle.bm_records.specs.Members.{members_view};
+ghost use Rattle.bm_records.specs.Firsts.{numbered, firsts};
+ghost use Rattle.bm_records.specs.Members.{members_at, IsPlace};
 ghost use Rattle.list_types.specs.declared.memory.Refusal.TheVariants as refusals;
 ghost use Rattle.json_shapes.specs.Shapes.{ReadsExactly, Reads};
 ghost use Rattle.bm_records.specs.Pipelines.{match_kind, key_field_of, table_kind, profile_by, next_table, each_next, next_tables_of, as_many, default_of, table_of, selector_of, profile_of, conditional_of, gress, pipeline_of, sides, pipelines_of};
@@ -18,7 +19,6 @@ use json_tree::{Element, Items};
 use list_types::{List, Refusal};
 use p4_types::info::MatchKind;
 use std::alloc::Global;
-use std::collections::BTreeMap;
 
 fn match_kind(text: &str) -> Result<MatchKind, OtherShape>
     ensures { ReadsExactly result (match_kind text.now) }
@@ -99,36 +99,57 @@ fn next_table<'a>(
     })
 }
 
-/// The members by rising names, with the last value of each.
-fn by_names<'a>(
+/// The names of the members, each beside what is left of the nodes where its value begins.
+fn places<'a>(
     alloc: Global,
-    mut members: Items<'a>,
-) -> Result<BTreeMap<&'a str, Element<'a>>, Refusal<OtherShape>>
-    ensures ok { IfOk result (λ found. members_view found.entries ≡ puts (items_in members.entry) no_members) }
+    members: &Items<'a>,
+) -> Result<Vec<(&'a str, usize)>, Refusal<OtherShape>>
+    ensures ok { IfOk result (λ found. members_at members.now.1 (firsts (numbered found.items)) ≡ puts (items_in members.now) no_members) }
+    ensures within { IfOk result (λ found. All (λ p. IsPlace members.now.1 p.1) found.items) }
     ensures err { IfErr result (λ e. e ≡ refusals.NoMemory) }
 {
-    let mut found = BTreeMap::new(alloc);
-    'members: while let Some((name, member)) = members.next_member() {
-        match found.insert(name, member) {
-            Ok(earlier) => drop(earlier),
-            Err(failed) => {
-                drop(failed);
-                return Err(Refusal::NoMemory);
-            }
-        }
+    let mut rest = members.again();
+    let mut found = Vec::with_capacity(alloc, members.len() / 2)?;
+    'members: while let Some((name, member)) = rest.next_member() {
+        found.push((name, member.left()))?;
     }
+    Ok(found)
+}
+
+/// Each name once, by rising names, with the lowest of its numbers.
+fn keep_firsts(pairs: &mut Vec<(&str, usize)>)
+    ensures { numbered pairs.new.items ≡ firsts (numbered pairs.old.items) }
+{
+    pairs.sort_unstable();
+    pairs.dedup_by(|later, first| later.0 == first.0);
+}
+
+/// The names of the members by rising names, each beside the place of its last value.
+fn by_names<'a>(
+    alloc: Global,
+    members: &Items<'a>,
+) -> Result<Vec<(&'a str, usize)>, Refusal<OtherShape>>
+    ensures ok { IfOk result (λ found. members_at members.now.1 (numbered found.items) ≡ puts (items_in members.now) no_members) }
+    ensures within { IfOk result (λ found. All (λ p. IsPlace members.now.1 p.1) found.items) }
+    ensures err { IfErr result (λ e. e ≡ refusals.NoMemory) }
+{
+    let mut found = places(alloc, members)?;
+    keep_firsts(&mut found);
     Ok(found)
 }
 
 fn each_next<'a>(
     alloc: Global,
-    members: &BTreeMap<&'a str, Element<'a>>,
+    members: &Items<'a>,
+    found: &[(&'a str, usize)],
 ) -> Result<List<NextTable<'a>>, Refusal<OtherShape>>
-    ensures { Reads result (each_next (members_view members.now.entries)) }
+    requires { All (λ p. IsPlace members.now.1 p.1) found.now }
+    ensures { Reads result (each_next (members_at members.now.1 (numbered found.now))) }
 {
-    let mut nexts = List::from_vec(Vec::with_capacity(alloc, members.len())?);
-    for (name, node) in members.iter() {
-        let next = next_table(alloc, *name, node)?;
+    let mut nexts = List::from_vec(Vec::with_capacity(alloc, found.len())?);
+    for (name, left) in found.iter() {
+        let node = members.element_at(*left);
+        let next = next_table(alloc, *name, &node)?;
         nexts.push(next)?;
     }
     Ok(nexts)
@@ -140,8 +161,8 @@ fn nexts_of<'a>(
 ) -> Result<List<NextTable<'a>>, Refusal<OtherShape>>
     ensures { Reads result (each_next (puts (items_in members.entry) no_members)) }
 {
-    match by_names(alloc, members) {
-        Ok(members) => each_next(alloc, &members),
+    match by_names(alloc, &members) {
+        Ok(found) => each_next(alloc, &members, found.as_slice()),
         Err(refusal) => Err(refusal),
     }
 }

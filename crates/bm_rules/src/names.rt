@@ -105,7 +105,7 @@ pub(crate) fn push_names<'a, T: Labelled>(
 pub(crate) fn names_repeat<T: Labelled>(alloc: Global, objects: &[T]) -> Result<bool, NoMemory>
     ensures { IfOk result (λ answer. answer ≡ names_repeat (map T.label objects.now)) }
 {
-    let mut names = Vec::new(alloc);
+    let mut names = Vec::with_capacity(alloc, objects.len())?;
     push_names(&mut names, objects)?;
     texts_repeat(alloc, names.as_slice())
 }
@@ -119,7 +119,7 @@ pub(crate) fn both_repeat<T: Labelled>(
 ) -> Result<bool, NoMemory>
     ensures { IfOk result (λ answer. answer ≡ names_repeat (map T.label (first.now ++ second.now))) }
 {
-    let mut names = Vec::new(alloc);
+    let mut names = Vec::with_capacity(alloc, first.len().saturating_add(second.len()))?;
     push_names(&mut names, first)?;
     push_names(&mut names, second)?;
     texts_repeat(alloc, names.as_slice())

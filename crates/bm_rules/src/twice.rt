@@ -30,7 +30,7 @@ fn any_type_repeats(alloc: Global, types: &[HeaderType]) -> Result<bool, NoMemor
 fn ids_of(alloc: Global, actions: &[Action]) -> Result<Vec<u64>, NoMemory>
     ensures { IfOk result (λ ids. ids.items ≡ map (λ x. x.id) actions.now) }
 {
-    let mut ids = Vec::new(alloc);
+    let mut ids = Vec::with_capacity(alloc, actions.len())?;
     for action in actions {
         ids.push(action.id)?;
     }

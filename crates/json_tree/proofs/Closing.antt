@@ -1,15 +1,14 @@
 -- The node of an array or an object is written once all that stands in it is read.
-use Rattle.std.proofs.Common.{◌≡◌, ℕ, ◌+◌, ◌-◌, ◌<◌, ◌≤◌, List, [], ◌∷◌, ◌++◌, length, slice_set, Result, Ok, Err, OnOk, IfErr, None, string_bytes, refl, sym, ap, ◌∙◌, subst, arith}
+use Rattle.std.proofs.Common.{◌≡◌, ℕ, ◌-◌, ◌≤◌, List, [], ◌∷◌, ◌++◌, length, slice_set, Result, Ok, Err, OnOk, IfErr, None, string_bytes, refl, sym, ap, subst, arith}
 use Rattle.std.proofs.lemmas.List.{length-append}
 use Rattle.json.specs.Token.{Token}
-use Rattle.serde_json.specs.Data.{Data, array, object, no_members}
+use Rattle.serde_json.specs.Data.{Data, no_members}
 use Rattle.serde_json.specs.View.{items_of}
-use Rattle.json_tree.specs.declared.node.Node.{Node}
 use Rattle.json_tree.specs.declared.node.Node.TheVariants as nodes
 use Rattle.json_tree.specs.declared.reading.Building.{Building}
 use Rattle.json_tree.specs.Nodes.{puts}
 use Rattle.list_types.specs.declared.memory.Refusal.{Refusal}
-use Rattle.list_types.specs.declared.memory.Refusal.TheVariants.{NoMemory, For}
+use Rattle.list_types.specs.declared.memory.Refusal.TheVariants.{NoMemory}
 use Rattle.json_tree.specs.declared.reading.NotJson.{NotJson}
 use Rattle.json_tree.specs.Building.{Grown, GrownBy, Takes, items_read, members_read, ReadsArray, ReadsItems, ReadsObject, ReadsMembers}
 use Rattle.json_tree.proofs.Growing.{grown_array, grown_object}

@@ -5,3 +5,4 @@ pub mod Converting
 pub mod Values
 pub mod Turns
 pub mod Closing
+pub mod Suffixes

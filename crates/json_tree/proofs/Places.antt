@@ -1,13 +1,12 @@
 -- The value that begins with a node, and what stands behind it.
-use Rattle.std.proofs.Common.{◌≡◌, ℕ, zero, suc, ◌+◌, ◌-◌, ◌<◌, ◌≤◌, Bool, List, [], ◌∷◌, length, take, drop, get_or, Option, Some, None, is_some, option_map, option_and_then, refl, sym, ap, ◌∙◌, subst, arith}
-use Rattle.std.proofs.lemmas.List.{length-drop}
-use Rattle.serde_json.specs.Data.{Num, Data, null, boolean, number, string, array, object, no_members}
+use Rattle.std.proofs.Common.{◌≡◌, ℕ, zero, suc, ◌+◌, ◌-◌, ◌<◌, ◌≤◌, List, [], ◌∷◌, length, take, drop, get_or, Option, Some, None, is_some, option_map, option_and_then, refl, sym, ap, ◌∙◌, subst, arith}
+use Rattle.serde_json.specs.Data.{Num, Data, no_members}
 use Rattle.serde_json.specs.Find.{as_null, as_bool, as_str, as_number, as_u64, as_array, as_object, get_item}
 use Rattle.serde_json.specs.Read.{number_of}
 use Rattle.serde_json.specs.View.{items_of}
 use Rattle.json_tree.specs.declared.node.Node.{Node}
 use Rattle.json_tree.specs.declared.node.Node.TheVariants as nodes
-use Rattle.json_tree.specs.Nodes.{part, number_or, puts, with_node, values, IsPart, Holds, IsSound, AreSound, IsElement, HasValues, inside_of, is_null_node, truth_in, text_in, digits_in, items_of_node, members_of_node}
+use Rattle.json_tree.specs.Nodes.{part, number_or, puts, with_node, values, IsPart, IsSound, AreSound, IsElement, inside_of, is_null_node, truth_in, text_in, digits_in, items_of_node, members_of_node}
 use Rattle.json_tree.specs.View.{first_of}
 
 -- ---- the first node

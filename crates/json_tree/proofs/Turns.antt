@@ -1,5 +1,5 @@
 -- What is read of items and of members, a turn at a time.
-use Rattle.std.proofs.Common.{◌≡◌, ℕ, ◌+◌, ◌-◌, ◌<◌, ◌≤◌, List, [], ◌∷◌, ◌++◌, length, Option, Some, None, string_bytes, refl, sym, ap, ◌∙◌, subst, arith}
+use Rattle.std.proofs.Common.{◌≡◌, ℕ, ◌+◌, ◌-◌, ◌≤◌, List, [], ◌∷◌, ◌++◌, length, Option, Some, None, string_bytes, refl, sym, ap, ◌∙◌, arith}
 use Rattle.std.proofs.lemmas.List.{append_assoc, append-nil, length-append}
 use Rattle.json.specs.Token.{Token}
 use Rattle.json.specs.Json as json
@@ -11,7 +11,7 @@ use Rattle.serde_json.specs.View.{items_of}
 use Rattle.json_tree.proofs.Converting.{item_read, item_refused, items_over, member_read, member_refused, key_refused, members_over}
 use Rattle.json_tree.specs.declared.reading.Building.{Building}
 use Rattle.json_tree.specs.Nodes.{puts}
-use Rattle.json_tree.specs.Building.{Grown, GrownBy, items_read, members_read, ReadsValue, ReadsItems, ReadsMembers}
+use Rattle.json_tree.specs.Building.{GrownBy, ReadsValue, ReadsItems, ReadsMembers}
 use Rattle.json_tree.proofs.Growing.{grown_none, grown_then}
 
 -- ---- lists that grow at their ends

@@ -1,5 +1,5 @@
 -- What is read of a value, by its first token.
-use Rattle.std.proofs.Common.{◌≡◌, ℕ, ◌+◌, ◌-◌, ◌<◌, List, [], ◌∷◌, length, Bool, true, false, Result, Ok, Err, Option, Some, None, OnOk, IfErr, is_some, option_map, refl, sym, ap, ◌∙◌, subst, arith}
+use Rattle.std.proofs.Common.{◌≡◌, ℕ, ◌-◌, ◌<◌, List, [], ◌∷◌, length, true, false, Result, Ok, Err, Option, Some, None, OnOk, IfErr, is_some, option_map, refl, ap, ◌∙◌, arith}
 use Rattle.json.specs.Token.{Token}
 use Rattle.json.specs.Json as json
 use Rattle.json.specs.Json.{parse_map}
@@ -9,8 +9,8 @@ use Rattle.json.specs.declared.token.Token.TheVariants as tokens
 use Rattle.json.proofs.Grammar.{value_is, value-begin_array, value-begin_object}
 use Rattle.list_types.specs.declared.memory.Refusal.{Refusal}
 use Rattle.list_types.specs.declared.memory.Refusal.TheVariants.{NoMemory, For}
-use Rattle.serde_json.specs.Data.{Num, Data, null, boolean, number, string, array, object, Items, Members, no_members}
-use Rattle.serde_json.specs.Read.{number_of, of_json, of_items, of_members, converted}
+use Rattle.serde_json.specs.Data.{Num, Data, number, array, object}
+use Rattle.serde_json.specs.Read.{number_of, of_json, converted}
 use Rattle.json_tree.specs.declared.reading.NotJson.{NotJson}
 use Rattle.json_tree.specs.declared.reading.Building.{Building}
 use Rattle.json_tree.specs.Nodes.{number_or}

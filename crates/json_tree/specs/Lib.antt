@@ -1,3 +1,5 @@
 pub mod Nodes
 pub mod View
+pub mod Packed
+pub mod Behind
 pub mod Building

@@ -1,13 +1,15 @@
 //! A value of a tree, what stands in it, and what is looked up there.
-ghost use Rattle.std.specs.Prelude.{◌≡◌, ◌+◌, ◌<◌, ◌≤◌, List, [], ◌∷◌, length, take, drop, option_map, option_and_then, is_some, Some, None, MatchOption};
+ghost use Rattle.std.specs.Prelude.{◌≡◌, ◌+◌, ◌<◌, ◌≤◌, List, [], ◌∷◌, length, take, drop, option_map, option_and_then, is_some, Some, None, IfSome, MatchOption};
 ghost use Rattle.serde_json.specs.Data.{Data, no_members};
 ghost use Rattle.serde_json.specs.Find.{get, at, as_null, as_bool, as_str, as_number, as_u64, as_array, as_object};
 ghost use Rattle.serde_json.specs.View.{items_of};
 ghost use Rattle.json_tree.specs.Nodes.{name_of, values, puts, with_node, IsSound, AreSound, IsElement, inside_of, is_null_node, truth_in, text_in, digits_in, items_of_node, members_of_node};
 ghost use Rattle.json_tree.specs.View.{view, items_in, HasNoMember};
+ghost use Rattle.json_tree.specs.Behind.{last_nodes, AreBehind};
 
 use crate::node::Node;
 use crate::number;
+use crate::packed::PackedNode;
 use std::marker::Model;
 
 /// A value of a tree. A contract sees its nodes and those behind it, beside the text that they speak of; `view` of
@@ -15,7 +17,7 @@ use std::marker::Model;
 #[derive(Drop)]
 pub struct Element<'a> {
     text: &'a str,
-    nodes: &'a [Node],
+    nodes: &'a [PackedNode],
 }
 
 impl<'a> Model for Element<'a> {
@@ -35,7 +37,7 @@ impl<'a> Model for Element<'a> {
 #[derive(Drop)]
 pub struct Items<'a> {
     text: &'a str,
-    nodes: &'a [Node],
+    nodes: &'a [PackedNode],
     count: usize,
 }
 
@@ -117,12 +119,13 @@ fn members_of_node(node: Node) -> Option<u32>
 }
 
 /// The nodes behind a value.
-fn behind<'a>(_text: &str, nodes: &'a [Node]) -> &'a [Node]
+fn behind<'a>(_text: &str, nodes: &'a [PackedNode]) -> &'a [PackedNode]
     requires { IsElement _text.now nodes.now }
     ensures sound { AreSound _text.now result.now }
     ensures values { values _text.now result.now ≡ drop 1 (values _text.now nodes.now) }
+    ensures place { AreBehind (_text.now, nodes.now) (_text.now, result.now) }
 {
-    let inside = inside_of(nodes[0]) as usize;
+    let inside = inside_of(nodes[0].node()) as usize;
     &nodes[inside + 1..]
 }
 
@@ -136,6 +139,7 @@ impl<'a> Items<'a> {
 
     pub fn next(&mut self) -> Option<Element<'a>>
         ensures value { MatchOption result (items_in self.old ≡ []) (λ e. items_in self.old ≡ view e ∷ items_in self.new) }
+        ensures place { IfSome result (λ e. (e ≡ self.old.1) × AreBehind e self.new.1) }
     {
         if self.count == 0 {
             return None;
@@ -153,15 +157,39 @@ impl<'a> Items<'a> {
     pub fn next_member(&mut self) -> Option<(&'a str, Element<'a>)>
         ensures value { MatchOption result (HasNoMember (items_in self.old))
             (λ m. (name : Data) × (items_in self.old ≡ name ∷ view m.1 ∷ items_in self.new) × (m.0.now ≡ name_of name)) }
+        ensures place { IfSome result (λ m. AreBehind self.old.1 m.1 × AreBehind m.1 self.new.1) }
     {
         let name = self.next()?;
         let member = self.next()?;
         Some((name.text(), member))
     }
+
+    /// The same items once more.
+    pub fn again(&self) -> Items<'a>
+        ensures { result ≡ self.now }
+    {
+        Items {
+            text: self.text,
+            nodes: self.nodes,
+            count: self.count,
+        }
+    }
+
+    /// What begins with so many nodes left, as `Element::left` told it of an element of these items.
+    pub fn element_at(&self, left: usize) -> Element<'a>
+        requires { (0 < left) × (left ≤ length self.now.1.1) }
+        ensures { result ≡ last_nodes left self.now.1 }
+    {
+        let passed = self.nodes.len() - left;
+        Element {
+            text: self.text,
+            nodes: &self.nodes[passed..],
+        }
+    }
 }
 
 impl<'a> Element<'a> {
-    pub(crate) fn first(text: &'a str, nodes: &'a [Node]) -> Element<'a>
+    pub(crate) fn first(text: &'a str, nodes: &'a [PackedNode]) -> Element<'a>
         requires { IsElement text.now nodes.now }
         ensures { result ≡ (text.now, nodes.now) }
     {
@@ -173,7 +201,7 @@ impl<'a> Element<'a> {
         ensures sound { IsSound self.now.0 result (drop 1 self.now.1) }
         ensures behind { AreSound self.now.0 (drop 1 self.now.1) }
     {
-        self.nodes[0]
+        self.nodes[0].node()
     }
 
     pub fn is_null(&self) -> bool
@@ -282,5 +310,12 @@ impl<'a> Element<'a> {
             left -= 1;
         }
         items.next()
+    }
+
+    /// How many nodes there are from its first one on. Of two elements of a tree the later one has fewer.
+    pub fn left(&self) -> usize
+        ensures { result ≡ length self.now.1 }
+    {
+        self.nodes.len()
     }
 }

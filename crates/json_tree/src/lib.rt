@@ -1,9 +1,11 @@
-//! A JSON text as a flat list of small nodes, which takes at most 6 bytes for each byte of the text beside its strings.
+//! A JSON text as a flat list of small nodes, which take at most 4 bytes for each byte of the text, and 4 more. Its strings and
+//! the digits of its numbers stand beside them.
 #![tactic(auto)]
 
 mod element;
 pub mod node;
 mod number;
+mod packed;
 mod reading;
 mod tree;
 

@@ -11,6 +11,7 @@ ghost use Rattle.json_tree.specs.Building.{GrownBy, Takes, leaf_of, AddsLeaf, it
 
 use crate::node::Node;
 use crate::number;
+use crate::packed::PackedNode;
 use crate::tree::Tree;
 use json::{Reader, Scratch, Token};
 use list_types::Refusal;
@@ -59,7 +60,7 @@ fn room_of(text: &str, scratch: &mut Scratch) -> Result<Room, Refusal<NotJson>>
 #[derive(Drop)]
 pub struct Building {
     text: String,
-    nodes: Vec<Node>,
+    nodes: Vec<PackedNode>,
 }
 
 fn place(len: usize) -> Result<u32, Refusal<NotJson>>
@@ -97,7 +98,7 @@ impl Building {
         ensures text { string_bytes self.new.text ≡ string_bytes self.old.text }
         ensures err { IfErr result (λ e. e ≡ refusals.NoMemory) }
     {
-        self.nodes.push(node)?;
+        self.nodes.push(PackedNode::of(node)?)?;
         Ok(())
     }
 
@@ -168,7 +169,8 @@ impl Building {
         ensures err { IfErr result (λ e. e ≡ refusals.NoMemory) }
     {
         let inside = self.inside(at)?;
-        self.nodes[at] = Node::Array { count, inside };
+        let node = PackedNode::of(Node::Array { count, inside })?;
+        self.nodes[at] = node;
         Ok(())
     }
 
@@ -180,7 +182,8 @@ impl Building {
         ensures err { IfErr result (λ e. e ≡ refusals.NoMemory) }
     {
         let inside = self.inside(at)?;
-        self.nodes[at] = Node::Object { count, inside };
+        let node = PackedNode::of(Node::Object { count, inside })?;
+        self.nodes[at] = node;
         Ok(())
     }
 }
@@ -322,7 +325,8 @@ fn read_all(
 }
 
 impl Tree {
-    /// The tree of a JSON text. A text with strings of 4 GiB or more is refused as for want of memory.
+    /// The tree of a JSON text. A text of 512 MiB or more may be refused as for want of memory, as where so much of it is strings
+    /// and numbers, or where an array has 2^29 items.
     pub fn read(alloc: Global, text: &str) -> Result<Tree, Refusal<NotJson>>
         ensures { Takes result (λ tree. read_text text.now ≡ Some (view tree)) (read_text text.now ≡ None) }
     {

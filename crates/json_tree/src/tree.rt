@@ -4,7 +4,7 @@ ghost use Rattle.json_tree.specs.Nodes.{IsElement};
 ghost use Rattle.json_tree.specs.View.{view};
 
 use crate::element::Element;
-use crate::node::Node;
+use crate::packed::PackedNode;
 use std::marker::Model;
 
 /// A JSON text that was read. A contract sees its nodes beside the text that they speak of; `view` of specs/View.antt is the
@@ -12,7 +12,7 @@ use std::marker::Model;
 #[derive(Drop)]
 pub struct Tree {
     text: String,
-    nodes: Vec<Node>,
+    nodes: Vec<PackedNode>,
 }
 
 impl Model for Tree {
@@ -31,7 +31,7 @@ impl Model for Tree {
 impl Tree {
     ghost use Rattle.std.specs.Prelude.{string_bytes};
 
-    pub(crate) fn of(text: String, nodes: Vec<Node>) -> Tree
+    pub(crate) fn of(text: String, nodes: Vec<PackedNode>) -> Tree
         requires { IsElement (string_bytes text) nodes.items }
         ensures { result ≡ (string_bytes text, nodes.items) }
     {

@@ -1,7 +1,6 @@
 use Rattle.std.proofs.Common.{◌≡◌, ◌+◌, ◌∷◌, length, Some, None, sym, ap, ◌∙◌, subst, arith, rules}
 use Rattle.json.specs.Json.{after_end_array, read_key}
 use Rattle.json.specs.Reads.{token_of}
-use Rattle.json.specs.Token.{Token}
 use Rattle.json_tree.specs.Building.{items_read, members_read, ReadsValue}
 use Rattle.json_tree.proofs.Values.{Read, array_too_deep, object_too_deep, array_read, object_read, leaf_read}
 use Rattle.json_tree.proofs.Turns.{ItemsSoFar, MembersSoFar, no_items_yet, one_item, item_is_refused, all_items, no_members_yet, one_member, key_is_refused, member_is_refused, all_members}
