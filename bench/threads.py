@@ -6,8 +6,8 @@ packets of 34 bytes, each on a route of its own and all on one route, and then e
 them, beside no writer and beside one that replaces a route as fast as it can. Before that it lets three readers look at
 snapshots while a writer replaces two routes at once 100,000 times: none may be torn, and none older than the one before.
 PROGRAM is crates/desk_speed (default: the built one), which measures inside of the process, and CONFIG the router's
-(default: as `bin/p4config` makes it). Each worker runs N packets (default: 1,000,000) and enters 4 * N snapshots; of three
-runs the shortest counts. Workers are also told beside as many processes of one worker each, which share nothing but the
+(default: as `bin/p4config` makes it). Each worker runs N packets (default: 1,000,000) that are all there from the beginning, up to
+32 on one snapshot, and enters 4 * N snapshots; of three runs the shortest counts. Workers are also told beside as many processes of one worker each, which share nothing but the
 machine, and an entry beside an uncontended addition to an atomic word in the same run. Times are of this machine; the
 ratios are what to quote, with how many hardware threads there are.
 """

@@ -32,7 +32,6 @@ use std::sync::Wait;
 use std::thread::yield_now;
 
 /// What is left of a run once all calls are made: the journal, the whole published list, with its Close, and the counters.
-#[derive(Drop)]
 pub struct ClosedDesk<J: Naming> {
     table: LaneTable<Signed>,
     seat: JournalSeat<Signed>,
@@ -41,6 +40,21 @@ pub struct ClosedDesk<J: Naming> {
     told: Told,
     bank: Bank,
     of: PhantomData<J>,
+}
+
+// Written out, so that those who let one go need not look into it.
+impl<J: Naming> Drop for ClosedDesk<J> {
+    fn drop(self) {
+        let Self {
+            table: _table,
+            seat: _seat,
+            control: _control,
+            journal: _journal,
+            told: _told,
+            bank: _bank,
+            of: _,
+        } = self;
+    }
 }
 
 impl<J: Naming> Model for ClosedDesk<J> {

@@ -12,7 +12,7 @@ use std::sync::Wait;
 use std::thread::yield_now;
 
 /// Runs a packet, of at most 9,216 bytes, that enters at a port, as `LaneWork::run` does. Where there is no snapshot to enter
-/// it asks again.
+/// it asks again. The lane may keep its snapshot.
 pub fn run_at_last<W: Wait>(
     rt: &W,
     alloc: Global,
@@ -38,7 +38,7 @@ pub fn run_at_last<W: Wait>(
     unreachable!()
 }
 
-/// Runs the packet that a call made enter, if it made one, at a port, once the lane was told of the call.
+/// Runs the packet that a call made enter, if it made one, at a port, once the lane was told of the call. It keeps no snapshot.
 pub(crate) fn run_behind<W: Wait>(
     rt: &W,
     alloc: Global,
@@ -58,5 +58,7 @@ pub(crate) fn run_behind<W: Wait>(
         return Ok(());
     };
     work.learn(told);
-    run_at_last(rt, alloc, bank, work, port, packet.as_slice())
+    let ran = run_at_last(rt, alloc, bank, work, port, packet.as_slice());
+    work.rest();
+    ran
 }

@@ -1,11 +1,11 @@
 //! Measures the desk of a switch that serves, by the tape that stands on standard input. The calls of its controllers' lane 0 are made
 //! first. Then each lane of workers works on a thread of its own, beside a writer that makes the calls of lane 1 in turn.
 //!
-//! With the word `packets` and a number, each worker runs its packets so often; with `enter` and a number it enters a snapshot so often
-//! and leaves it. It then tells how long that took, and how long as many uncontended additions to an atomic word. With no word, or with
-//! `look` and a number, each looks at snapshots while the writer makes its calls so often: all packets of a worker, run on one snapshot,
-//! are to leave at one port, since each call of the writer sends all of them to another, and no snapshot is to be older than the one
-//! before.
+//! With the word `packets` and a number, each worker runs its packets so often, in bursts; with `enter` and a number it enters a
+//! snapshot so often and leaves it. It then tells how long that took, and how long as many uncontended additions to an atomic word. With
+//! no word, or with `look` and a number, each looks at snapshots while the writer makes its calls so often: all packets of a worker, run
+//! on one snapshot, are to leave at one port, since each call of the writer sends all of them to another, and no snapshot is to be older
+//! than the one before.
 #![tactic(auto)]
 
 mod asking;

@@ -45,7 +45,7 @@ fn carry_once<J: Naming, R: Wait + Drop>(
     for load in loads.as_slice() {
         let packet = load.packet.as_slice();
         let packet = &packet[..packet.len().min(MOST_BYTES)];
-        desk.run(worker, load.port, packet, verdict);
+        desk.run_in_burst(worker, load.port, packet, verdict);
         if let Fate::Sent = verdict.fate() {
             done.count = done.count.saturating_add(1);
         }
@@ -62,6 +62,7 @@ fn carry<J: Naming, R: Wait + Drop>(
     for _ in 0..shared.task.times {
         carry_once(&shared.desk, &mut worker, &mut sight, &mut done);
     }
+    worker.rest();
     done
 }
 

@@ -137,9 +137,18 @@ impl LaneWork {
         self.worker.learn(told);
     }
 
+    /// Leaves the snapshot that the last packets were run on. Whoever publishes waits for a lane that keeps an older one, so a lane
+    /// rests before it waits for another, and at its end.
+    pub fn rest(&mut self)
+        ensures { self.new ≡ self.old }
+    {
+        self.worker.rest();
+    }
+
     /// Runs a packet, of at most 9,216 bytes, that enters at a port, on a snapshot whose list begins with all that was seen and
     /// learnt, and counts each of its hits that has a slot: one packet, and the bytes that came in. It waits for nobody.
-    /// Its record is the lane's next. Without a snapshot to enter it is not run, which is counted.
+    /// Its record is the lane's next. Without a snapshot to enter it is not run, which is counted. It keeps the snapshot for the
+    /// packets that follow, 32 in all, until it learns or rests.
     pub fn run(
         &mut self,
         alloc: Global,

@@ -146,6 +146,22 @@ impl<J: Naming, R: Wait + Drop> LiveDesk<J, R> {
         ensures { HasRun port packet.now worker.old worker.new verdict.new }
     {
         worker.run(&self.rt, &self.bank, port, packet, verdict);
+        worker.rest();
+    }
+
+    /// The same within a burst, of packets that had all come in before the first of them is run: the worker keeps its snapshot for those
+    /// that follow, 32 in all. It is to rest behind the last.
+    pub fn run_in_burst(
+        &self,
+        worker: &mut DeskWorker<J>,
+        port: u16,
+        packet: &[u8],
+        verdict: &mut Verdict,
+    )
+        requires { length packet.now ≤ 9216 }
+        ensures { HasRun port packet.now worker.old worker.new verdict.new }
+    {
+        worker.run(&self.rt, &self.bank, port, packet, verdict);
     }
 
     /// Hands on what a worker's packet gives to controllers, at a moment in nanoseconds: packets to the lane, where that has a session,

@@ -15,10 +15,19 @@ use std::marker::{Model, PhantomData};
 use std::sync::Wait;
 
 /// Runs packets that come in at ports, on what its desk has published by then, and counts what they hit. It goes from thread to thread.
-#[derive(Drop)]
 pub struct DeskWorker<J: Naming> {
     worker: Worker,
     of: PhantomData<J>,
+}
+
+// Written out, so that those who let one go need not look into it.
+impl<J: Naming> Drop for DeskWorker<J> {
+    fn drop(self) {
+        let Self {
+            worker: _worker,
+            of: _,
+        } = self;
+    }
 }
 
 impl<J: Naming> Model for DeskWorker<J> {
@@ -57,7 +66,8 @@ impl<J: Naming> DeskWorker<J> {
     pub(crate) fn into_worker(self) -> Worker
         ensures { result ≡ self }
     {
-        self.worker
+        let Self { worker, of: _ } = self;
+        worker
     }
 
     /// What it has seen or learnt of the published list, for passes and other workers of the desk.
@@ -91,7 +101,16 @@ impl<J: Naming> DeskWorker<J> {
         self.worker.steps()
     }
 
-    /// Runs a packet, of at most 9,216 bytes, that enters at a port. Where there is no snapshot to enter it asks again.
+    /// Leaves the snapshot that the last packets of a burst were run on. Whoever publishes waits for a worker that keeps an older one, so
+    /// a worker rests behind a burst, before it waits for anybody.
+    pub fn rest(&mut self)
+        ensures { self.new ≡ self.old }
+    {
+        self.worker.rest();
+    }
+
+    /// Runs a packet, of at most 9,216 bytes, that enters at a port. Where there is no snapshot to enter it asks again. It may keep the
+    /// snapshot.
     pub(crate) fn run<R: Wait>(
         &mut self,
         rt: &R,
@@ -114,6 +133,6 @@ impl<J: Naming> DeskWorker<J> {
         ensures seat { result.1 ≡ self.seat }
         ensures bank { result.1.bank ≡ J.bank }
     {
-        self.worker.finish()
+        self.into_worker().finish()
     }
 }

@@ -16,13 +16,25 @@ use std::sync::Wait;
 use std::thread::yield_now;
 
 /// What is left of a desk: the whole published list, the counters, and the seat of all calls, with which each pass is compared.
-#[derive(Drop)]
 pub struct ClosedDesk<J: Naming> {
     table: LaneTable<CallSteps>,
     seat: JournalSeat<CallSteps>,
     told: Told,
     bank: Bank,
     of: PhantomData<J>,
+}
+
+// Written out, so that those who let one go need not look into it.
+impl<J: Naming> Drop for ClosedDesk<J> {
+    fn drop(self) {
+        let Self {
+            table: _table,
+            seat: _seat,
+            told: _told,
+            bank: _bank,
+            of: _,
+        } = self;
+    }
 }
 
 impl<J: Naming> Model for ClosedDesk<J> {
@@ -109,6 +121,13 @@ impl<J: Naming> ClosedDesk<J> {
         ensures bank { result ≡ self.bank }
         ensures name { result.id ≡ J.bank }
     {
-        self.bank
+        let Self {
+            table: _table,
+            seat: _seat,
+            told: _told,
+            bank,
+            of: _,
+        } = self;
+        bank
     }
 }

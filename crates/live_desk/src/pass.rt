@@ -8,7 +8,7 @@ use crate::call_steps::CallSteps;
 use crate::desk_told::DeskTold;
 use crate::desk_worker::DeskWorker;
 use crate::naming::Naming;
-use crate::running::{keep_outputs, run_at_last};
+use crate::running::{keep_outputs, run_alone};
 use counter_bank::Bank;
 use lane_table::LaneSeat;
 use list_types::{ByteList, NoMemory};
@@ -160,7 +160,7 @@ impl<J: Naming> Pass<J> {
         let Some(packet) = packet else {
             return;
         };
-        run_at_last(
+        run_alone(
             rt,
             bank,
             &mut self.worker,

@@ -13,7 +13,8 @@ use std::collections::VecDeque;
 use std::sync::Wait;
 use std::thread::yield_now;
 
-/// Runs a packet, of at most 9,216 bytes, that enters at a port. Where there is no snapshot to enter it asks again.
+/// Runs a packet, of at most 9,216 bytes, that enters at a port. Where there is no snapshot to enter it asks again. The worker may keep
+/// the snapshot.
 pub(crate) fn run_at_last<R: Wait>(
     rt: &R,
     bank: &Bank,
@@ -35,6 +36,25 @@ pub(crate) fn run_at_last<R: Wait>(
         yield_now();
     }
     unreachable!()
+}
+
+/// The same, but that the worker keeps no snapshot.
+pub(crate) fn run_alone<R: Wait>(
+    rt: &R,
+    bank: &Bank,
+    worker: &mut Worker,
+    port: u16,
+    packet: &[u8],
+    verdict: &mut Verdict,
+)
+    requires bank { worker.old.seat.bank ≡ bank.now.id }
+    requires slots { slot_limit ≤ bank.now.slots }
+    requires packet { length packet.now ≤ 9216 }
+    ensures ran { HasRun port packet.now worker.old worker.new verdict.new }
+    ensures bank { worker.new.seat.bank ≡ worker.old.seat.bank }
+{
+    run_at_last(rt, bank, worker, port, packet, verdict);
+    worker.rest();
 }
 
 // Adds what leaves to what waits, or nothing without memory.

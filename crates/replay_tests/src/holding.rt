@@ -106,4 +106,8 @@ impl<R: Clock> Gate for Holding<'_, R> {
             self.let_go.store(true, Ordering::SeqCst);
         }
     }
+
+    fn holds(&self) -> bool {
+        true
+    }
 }

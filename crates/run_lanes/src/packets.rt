@@ -81,6 +81,13 @@ impl<J: Naming> PacketPass<J> {
         self.todo.len()
     }
 
+    /// Leaves the snapshot that its last packets were run on, so that whoever publishes need not wait for it.
+    pub fn rest(&mut self)
+        ensures { self.new ≡ self.old }
+    {
+        self.work.rest();
+    }
+
     /// Whether a packet is next.
     pub fn brings(&self) -> bool
         ensures { result ≡ is_packet_next self.now.todo }
@@ -116,6 +123,7 @@ fn meet<J: Naming, R: Wait + Drop, W: Wait>(
     requires list { work.old.told.list ≡ J.list }
     ensures met { OnOk result (Awaits controller call mets.old.items mets.new.items work.old work.new) }
 {
+    work.rest();
     mets.reserve(1)?;
     let met = desk.told_after(rt, controller, call)?;
     work.learn(met.told());
@@ -150,8 +158,8 @@ fn take<J: Naming, R: Wait + Drop, W: Wait>(
     }
 }
 
-/// Takes a worker's next item, unless it has taken all or found no memory before.
-pub fn take_next<J: Naming, R: Wait + Drop, W: Wait>(
+// The same as `take_next`, but that behind a packet the lane may keep its snapshot.
+fn take_on<J: Naming, R: Wait + Drop, W: Wait>(
     rt: &W,
     alloc: Global,
     desk: &TapeDesk<J, R>,
@@ -213,7 +221,23 @@ pub fn take_next<J: Naming, R: Wait + Drop, W: Wait>(
     )
 }
 
-/// Takes all that a worker's lane was given, unless it finds no memory. The gate is asked before each packet.
+/// Takes a worker's next item, unless it has taken all or found no memory before.
+pub fn take_next<J: Naming, R: Wait + Drop, W: Wait>(
+    rt: &W,
+    alloc: Global,
+    desk: &TapeDesk<J, R>,
+    pass: PacketPass<J>,
+) -> (PacketPass<J>, Asked)
+    ensures lane { result.0.lane ≡ pass.lane }
+    ensures taken { IsTaken result.1 pass result.0 }
+{
+    let (mut pass, taken) = take_on(rt, alloc, desk, pass);
+    pass.rest();
+    (pass, taken)
+}
+
+/// Takes all that a worker's lane was given, unless it finds no memory. The gate is asked before each packet. Packets one after another
+/// are run on one snapshot, up to 32 of them; none is kept while the lane waits, or behind the last.
 pub fn take_all<J: Naming, R: Wait + Drop, W: Wait, G: Gate>(
     rt: &W,
     alloc: Global,
@@ -228,14 +252,19 @@ pub fn take_all<J: Naming, R: Wait + Drop, W: Wait, G: Gate>(
     let mut number = 1u64;
     'items: while pass.left() > 0 {
         if pass.brings() {
+            if gate.holds() {
+                pass.rest();
+            }
             gate.turn(Who::Worker(pass.lane()), number);
             number = number.saturating_add(1);
         }
-        let (next, taken) = take_next(rt, alloc, desk, pass);
+        let (next, taken) = take_on(rt, alloc, desk, pass);
         pass = next;
         if !matches!(taken, Asked::Made) {
+            pass.rest();
             return pass;
         }
     }
+    pass.rest();
     pass
 }

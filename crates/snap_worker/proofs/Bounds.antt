@@ -1,5 +1,5 @@
 -- The slots of what a packet hits are below the limit.
-use Rattle.std.proofs.Common.{◌≡◌, ℕ, zero, suc, ◌+◌, ◌<◌, ◌≤◌, Bool, true, false, eqb, List, [], ◌∷◌, ◌++◌, Option, Some, None, refl, subst, arith}
+use Rattle.std.proofs.Common.{◌≡◌, sym, ℕ, zero, suc, ◌+◌, ◌<◌, ◌≤◌, Bool, true, false, eqb, List, [], ◌∷◌, ◌++◌, Option, Some, None, refl, subst, arith}
 use Rattle.std.specs.Prelude.{All, IfSome}
 use Rattle.std.specs.List.{filter_map, cons_option}
 use Rattle.std.proofs.lemmas.Bool.Decides.{nat_tests}
@@ -9,7 +9,7 @@ use Rattle.p4_types.specs.declared.records.HitMark.TheVariants as marks
 use Rattle.p4_types.specs.declared.table.Entry.{Entry}
 use Rattle.packet_spec.proofs.Hits.{hits_are_there}
 use Rattle.packet_spec.specs.Laws.{IsThere}
-use Rattle.packet_spec.specs.Meaning.{meaning}
+use Rattle.packet_spec.specs.Meaning.{Verdict, meaning}
 use Rattle.plane_spec.proofs.SoundPlanes.{planes_stay_sound}
 use Rattle.plane_spec.specs.Config.{cells_in}
 use Rattle.plane_spec.specs.Entries.{slot_limit}
@@ -80,3 +80,7 @@ pub hits_within : (told : Beginning) → Legal (opened told.start) told.events �
 hits_within told legal port packet =
     let c : ControlState = state_after told in
     all_within c.active c.cpu port packet (below_limit c (planes_stay_sound told.start told.events legal))
+
+-- the same of what is that verdict
+pub are_within : (told : Beginning) (v : Verdict) (port : ℕ) (packet : List ℕ) → Legal (opened told.start) told.events → v ≡ verdict_in (state_after told) port packet → All (IsWithin slot_limit) v.hits
+are_within told v port packet legal same = subst (λ (w : Verdict). All (IsWithin slot_limit) w.hits) (sym same) (hits_within told legal port packet)

@@ -6,6 +6,8 @@ use Rattle.packet_spec.specs.Meaning.{Verdict, meaning}
 use Rattle.plane_spec.specs.Planes.{ControlState, opened, applied}
 use Rattle.pub_snap.specs.Beginnings.{Beginning}
 use Rattle.pub_snap.specs.Snapshots.{Sight}
+use Rattle.snap_worker.specs.declared.place.Place.{Place}
+use Rattle.snap_worker.specs.declared.place.Place.TheVariants as places
 
 -- What was seen or learnt of the list, and how often a snapshot was refused. Of the image that was seen last: its steps, and who gets packets to a controller.
 pub record Watched : Type 0 where
@@ -22,10 +24,15 @@ pub record Working : Type 0 where
   pub receiver : Option ℕ
   pub seat : Account
 
--- what a viewer knows; one that is not there knows nothing
-abbrev pub sight_of : Option Sight → Sight
+-- what a viewer knows, wherever it is
+abbrev pub sight_in : Place → Sight
+sight_in (places.Out sight) = sight
+sight_in (places.At stay) = record { told = stay.view.told; refusals = stay.view.refusals }
+
+-- the same of one that may be nowhere, where it knows nothing
+abbrev pub sight_of : Option Place → Sight
 sight_of None = record { told = record { list = no_list; start = record { device = 0; cpu = 0; rows = 0; bridge = false }; events = [] }; refusals = 0 }
-sight_of (Some sight) = sight
+sight_of (Some place) = sight_in place
 
 -- a worker that has run no packet yet
 abbrev pub new_worker : Beginning → ℕ → Account → Working

@@ -4,6 +4,8 @@
 mod counting;
 pub mod laws;
 mod loading;
+mod place;
+mod stay;
 mod watch;
 mod worker;
 

@@ -4,18 +4,19 @@ ghost use Rattle.plane_spec.specs.Entries.{slot_limit};
 ghost use Rattle.pub_snap.specs.Beginnings.{Begins};
 ghost use Rattle.pub_snap.specs.Snapshots.{steps_in};
 ghost use Rattle.snap_worker.specs.Counting.{IsWithin};
-ghost use Rattle.snap_worker.specs.Working.{one_more, state_after, verdict_in};
+ghost use Rattle.snap_worker.specs.Working.{one_more, sight_in, state_after, verdict_in};
 ghost use Rattle.switch_spec.specs.Meaning.{receiver};
 
+use crate::place::Place;
 use crate::worker::NoEntry;
 use pkt_worker::{Scratch, Verdict, run};
 use pub_snap::{Told, View, Viewer};
 use std::marker::Model;
 
-/// A viewer, which is taken out while a snapshot is entered, and what was seen last.
+/// A viewer, which is taken out while a packet is run, and what was seen last.
 #[derive(Drop)]
 pub(crate) struct Watch {
-    viewer: Option<Viewer>,
+    place: Option<Place>,
     steps: u64,
     receiver: Option<u16>,
 }
@@ -32,13 +33,13 @@ impl Model for Watch {
     ghost Value = { Watched };
 
     ghost view = { λ w. record {
-      told = (sight_of w.viewer).told;
-      refusals = (sight_of w.viewer).refusals;
+      told = (sight_of w.place).told;
+      refusals = (sight_of w.place).refusals;
       steps = w.steps;
       receiver = w.receiver;
     } };
 
-    ghost invariant = { λ w. (is_some w.viewer ≡ true) × (w.steps ≤ steps_in (sight_of w.viewer).told.events) };
+    ghost invariant = { λ w. (is_some w.place ≡ true) × (w.steps ≤ steps_in (sight_of w.place).told.events) };
 }
 
 // What was seen of an image: its steps, and who gets packets to a controller.
@@ -49,12 +50,15 @@ struct Seen {
 }
 
 // Runs a packet through the active plane of a snapshot.
+#[tactic(auto, using(crate::proofs::Bounds::are_within))]
 fn run_on(view: &View, port: u16, packet: &[u8], scratch: &mut Scratch, out: &mut Verdict) -> Seen
-    ensures verdict { out.new ≡ verdict_in view.now.image.now port packet.now }
-    ensures steps { result.steps ≡ view.now.image.steps }
-    ensures receiver { result.receiver ≡ receiver view.now.image.now }
+    ensures verdict { out.new ≡ verdict_in (state_after view.now.told) port packet.now }
+    ensures slots { All (IsWithin slot_limit) out.new.hits }
+    ensures steps { result.steps ≡ steps_in view.now.told.events }
+    ensures receiver { result.receiver ≡ receiver (state_after view.now.told) }
 {
     let image = view.image();
+    let _events = view.told().len();
     run(image.active(), image.cpu(), port, packet, scratch, out);
     Seen {
         steps: image.steps(),
@@ -62,29 +66,29 @@ fn run_on(view: &View, port: u16, packet: &[u8], scratch: &mut Scratch, out: &mu
     }
 }
 
-// Enters a snapshot, runs a packet on it, and leaves.
+// Runs a packet on a snapshot, which is kept.
 fn look(
-    viewer: Viewer,
+    place: Place,
     port: u16,
     packet: &[u8],
     scratch: &mut Scratch,
     out: &mut Verdict,
-) -> (Viewer, Result<Seen, NoEntry>)
-    ensures begins { OnOk result.1 (Begins viewer.told result.0.told) }
-    ensures refusals { OnOk result.1 (result.0.refusals ≡ viewer.refusals) }
-    ensures verdict { OnOk result.1 (out.new ≡ verdict_in (state_after result.0.told) port packet.now) }
+) -> (Place, Result<Seen, NoEntry>)
+    ensures begins { OnOk result.1 (Begins (sight_in place).told (sight_in result.0).told) }
+    ensures refusals { OnOk result.1 ((sight_in result.0).refusals ≡ (sight_in place).refusals) }
+    ensures verdict { OnOk result.1 (out.new ≡ verdict_in (state_after (sight_in result.0).told) port packet.now) }
     ensures slots { OnOk result.1 (All (IsWithin slot_limit) out.new.hits) }
-    ensures steps { IfOk result.1 (λ seen. seen.steps ≡ steps_in result.0.told.events) }
-    ensures receiver { IfOk result.1 (λ seen. seen.receiver ≡ receiver (state_after result.0.told)) }
-    ensures refused { OnErr result.1 (result.0 ≡ record { told = viewer.told; refusals = one_more viewer.refusals }) }
+    ensures steps { IfOk result.1 (λ seen. seen.steps ≡ steps_in (sight_in result.0).told.events) }
+    ensures receiver { IfOk result.1 (λ seen. seen.receiver ≡ receiver (state_after (sight_in result.0).told)) }
+    ensures refused { OnErr result.1 (sight_in result.0 ≡ record { told = (sight_in place).told; refusals = one_more (sight_in place).refusals }) }
     ensures kept { OnErr result.1 (out.new ≡ out.old) }
 {
-    let view = match viewer.enter() {
-        Ok(view) => view,
-        Err(viewer) => return (viewer, Err(NoEntry)),
+    let stay = match place.stay() {
+        Ok(stay) => stay,
+        Err(viewer) => return (Place::Out(viewer), Err(NoEntry)),
     };
-    let seen = run_on(&view, port, packet, scratch, out);
-    (view.leave(), Ok(seen))
+    let seen = run_on(&stay.view, port, packet, scratch, out);
+    (Place::At(stay), Ok(seen))
 }
 
 impl Watch {
@@ -92,7 +96,7 @@ impl Watch {
         ensures { result ≡ record { told = viewer.told; refusals = viewer.refusals; steps = 0; receiver = None } }
     {
         Watch {
-            viewer: Some(viewer),
+            place: Some(Place::Out(viewer)),
             steps: 0,
             receiver: None,
         }
@@ -101,8 +105,9 @@ impl Watch {
     pub(crate) fn told(&self) -> &Told
         ensures { result.now ≡ self.now.told }
     {
-        match &self.viewer {
-            Some(viewer) => viewer.told(),
+        match &self.place {
+            Some(Place::Out(viewer)) => viewer.told(),
+            Some(Place::At(stay)) => stay.view.told(),
             None => unreachable!(),
         }
     }
@@ -110,8 +115,9 @@ impl Watch {
     pub(crate) fn refusals(&self) -> u64
         ensures { result ≡ self.now.refusals }
     {
-        match &self.viewer {
-            Some(viewer) => viewer.refusals(),
+        match &self.place {
+            Some(Place::Out(viewer)) => viewer.refusals(),
+            Some(Place::At(stay)) => stay.refusals,
             None => unreachable!(),
         }
     }
@@ -137,14 +143,25 @@ impl Watch {
         ensures learnt { Begins told.now self.new.told }
         ensures others { self.new ≡ record self.old { told = self.new.told } }
     {
-        let Some(mut viewer) = self.viewer.take() else {
+        let Some(place) = self.place.take() else {
             unreachable!()
         };
+        let mut viewer = place.outside();
         viewer.learn(told);
-        self.viewer = Some(viewer);
+        self.place = Some(Place::Out(viewer));
     }
 
-    /// Runs a packet on a snapshot.
+    /// Leaves the snapshot that is kept.
+    pub(crate) fn rest(&mut self)
+        ensures { self.new ≡ self.old }
+    {
+        let Some(place) = self.place.take() else {
+            unreachable!()
+        };
+        self.place = Some(Place::Out(place.outside()));
+    }
+
+    /// Runs a packet on a snapshot, which is kept for those that follow.
     pub(crate) fn run(
         &mut self,
         port: u16,
@@ -162,11 +179,11 @@ impl Watch {
         ensures refused { OnErr result (self.new ≡ record self.old { refusals = one_more self.old.refusals }) }
         ensures kept { OnErr result (out.new ≡ out.old) }
     {
-        let Some(viewer) = self.viewer.take() else {
+        let Some(place) = self.place.take() else {
             unreachable!()
         };
-        let (viewer, seen) = look(viewer, port, packet, scratch, out);
-        self.viewer = Some(viewer);
+        let (place, seen) = look(place, port, packet, scratch, out);
+        self.place = Some(place);
         let seen = seen?;
         self.steps = seen.steps;
         self.receiver = seen.receiver;
@@ -176,8 +193,8 @@ impl Watch {
     pub(crate) fn finish(self) -> Viewer
         ensures { result ≡ record { told = self.told; refusals = self.refusals } }
     {
-        match self.viewer {
-            Some(viewer) => viewer,
+        match self.place {
+            Some(place) => place.outside(),
             None => unreachable!(),
         }
     }

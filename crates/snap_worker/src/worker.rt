@@ -122,8 +122,17 @@ impl Worker {
         self.watch.learn(told);
     }
 
+    /// Leaves the snapshot that the last packets were run on. Whoever publishes waits for a worker that keeps an older one, so a worker
+    /// rests before it waits for somebody.
+    pub fn rest(&mut self)
+        ensures { self.new ≡ self.old }
+    {
+        self.watch.rest();
+    }
+
     /// Runs a packet, of at most 9,216 bytes, on a snapshot whose list begins with all that was seen and learnt, and counts
-    /// each of its hits that has a slot: one packet, and the bytes that came in. It waits for nobody and takes no memory.
+    /// each of its hits that has a slot: one packet, and the bytes that came in. It waits for nobody and takes no memory. It keeps the
+    /// snapshot for the packets that follow, 32 in all, until it learns or rests.
     pub fn process(
         &mut self,
         bank: &Bank,

@@ -10,9 +10,11 @@ use Rattle.lane_work.specs.contracts.work.LaneWork as LaneWork
 use Rattle.p4_types.specs.contracts.records.Record as Record
 use Rattle.pkt_worker.specs.contracts.running.Scratch as Scratch
 use Rattle.pkt_worker.specs.contracts.verdict.Verdict as Verdict
+use Rattle.snap_worker.specs.contracts.place.Place as ViewerPlace
+use Rattle.snap_worker.specs.contracts.stay.Stay as Stay
 use Rattle.snap_worker.specs.contracts.watch.Watch as Watch
 use Rattle.snap_worker.specs.contracts.worker.Worker as Worker
-use Rattle.thread_crossings.proofs.Snapshots.{viewer_send}
+use Rattle.thread_crossings.proofs.Snapshots.{view_send, viewer_send}
 
 pub seat_send : IsSend (Seat.the_field).row
 seat_send = search (place_send, sendable) depth 60 fits 20000
@@ -29,8 +31,14 @@ scratch_send = search (crosses, sendable) depth 60 fits 20000
 pub verdict_send : IsSend (Verdict.the_field).row
 verdict_send = search (crosses, sendable) depth 60 fits 20000
 
+stay_send : IsSend (Stay.the_field).row
+stay_send = search (view_send, sendable) depth 60 fits 20000
+
+viewer_place_send : IsSend (ViewerPlace.the_field).row
+viewer_place_send = search (viewer_send, stay_send, sendable) depth 60 fits 20000
+
 watch_send : IsSend (Watch.the_field).row
-watch_send = search (viewer_send, sendable) depth 60 fits 20000
+watch_send = search (viewer_place_send, sendable) depth 60 fits 20000
 
 pub worker_send : IsSend (Worker.the_field).row
 worker_send = search (watch_send, seat_send, scratch_send, sendable) depth 60 fits 20000

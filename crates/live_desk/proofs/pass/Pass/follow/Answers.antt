@@ -11,7 +11,7 @@ invariant_of-self g c =
       i.3,
       i.4,
       i.5,
-      begins_trans c.self.inside.last c.self.inside.worker.told c.run_at_last.new.worker.told i.6 c.run_at_last.ensures.ran.told,
-      c.run_at_last.ensures.bank ∙ i.7,
+      begins_trans c.self.inside.last c.self.inside.worker.told c.run_alone.new.worker.told i.6 c.run_alone.ensures.ran.told,
+      c.run_alone.ensures.bank ∙ i.7,
       i.8,
     )

@@ -3,7 +3,7 @@ use Rattle.std.specs.List.{AllByRecursion}
 use Rattle.run_lanes.specs.Packets.{IsPacketPass, PassesPackets}
 use Rattle.tape_lanes.specs.Lanes.{IsItem}
 use Rattle.run_lanes.proofs.Taking.{pass_taken}
-use Rattle.run_lanes.proofs.packets.take_next.Goals as goal
+use Rattle.run_lanes.proofs.packets.take_on.Goals as goal
 use Rattle.switch_spec.specs.declared.calls.WorkerItem.{WorkerItem}
 
 pub invariant_of-result-2 : goal.invariant_of-result-2
