@@ -7,8 +7,12 @@ size, and the peak memory as a multiple of the configuration's bytes. A ratio ne
 configuration is judged in time linear in its size. Each configuration is judged to the end of the rules, but for the
 headers, of which there are more than 128 (L3): they are looked up by the rule before.
 
-Then it puts short items of many kinds into lists of the program, as many as 1 MiB of JSON has, which most often are refused at
-once, and prints for each list the item for which most memory was held; at most 12 times the bytes are meant.
+Then it puts short items of many kinds into lists of the program, the same one over and over and such with different names, and
+members with different names into `next_tables`, as many as 4 MiB of JSON has, which most often are refused at once, and prints for
+each list the item for which most memory was held; at most 12 times the bytes are meant, beside what the program takes by itself,
+which is printed first.
+
+Last it does the same with a P4Info of 1 MiB of empty objects of one kind, and of one table of empty parts.
 
 Of each time the least of three runs counts. Times and memory are of this machine.
 """
@@ -91,13 +95,39 @@ def configs(info, program, size):
 LISTS = ("header_types", "headers", "fields", "parse_states", "transitions", "order", "errors", "actions", "primitives", "action_ids", "key", "input")
 SHORT = (b"0", b"null", b"true", b'""', b"[]", b"{}", b"[[0]]", b'{"a":1}', b'["",0]', b'["",8]', b'["a",8]', b'{"op":"","parameters":[]}',
          b'{"name":"","fields":[]}', b'{"type":"default","next_state":null}')
+NAMED = (b'"%s"', b'["%s",8]', b'["%s",0]', b'{"%s":0}', b'{"op":"%s","parameters":[]}', b'{"name":"%s","fields":[]}')
+LETTERS = bytes(i for i in range(32, 127) if i not in b'"\\')
 
 
-def short(info, program):
-    """The name of each list, an item, and a program in which the list has the item over and over."""
+def letters(i):
+    """The text of three letters that has this number."""
+    return bytes(LETTERS[i // len(LETTERS) ** place % len(LETTERS)] for place in range(3))
+
+
+def short(program):
+    """The name of each list, an item, and a program in which the list has the item over and over, or with another name each time."""
     for name in LISTS:
+        place = b'"%s":[' % name.encode()
         for item in SHORT:
-            yield name, item, info, filled(program, b'"%s":[' % name.encode(), lambda _: item, LONGEST // 4)
+            yield name, item, filled(program, place, lambda _: item, LONGEST)
+        for item in NAMED:
+            yield name, item, filled(program, place, lambda i: item % letters(i), LONGEST)
+    for value in (b"null", b'""', b"0"):
+        item = b'"%s":' + value
+        yield "next_tables", item, filled(program, b'"next_tables":{', lambda i: item % letters(i), LONGEST)
+
+
+OBJECTS = {"tables": 2, "actions": 3, "action profiles": 4, "counters": 5, "direct counters": 6, "controller headers": 9, "digests": 12}
+PARTS = {"match fields": 2, "references to actions": 3}
+
+
+def empty_objects():
+    """What a P4Info has over and over, each in two bytes, and the P4Info."""
+    half = LONGEST // 8
+    for name, kind in OBJECTS.items():
+        yield name, long_field(kind, b"") * half
+    for name, kind in PARTS.items():
+        yield name, long_field(2, long_field(kind, b"") * half)
 
 
 def judged(program, config):
@@ -123,15 +153,23 @@ def main():
             seconds, peak, status = judged(program, config)
             print("%s, %.2f MiB: %.3f s, %.2f times the first, peak %.1f times the bytes%s"
                   % (name, len(config) / 2**20, seconds, seconds / first.setdefault(name, seconds), peak * 1024 / len(config), " (refused)" if status else ""), flush=True)
+    _, own, _ = judged(program, long_field(1, parts[1]) + long_field(2, plain))
+    print("the program by itself: %.1f MiB" % (own / 1024))
     most = {}
-    for name, item, info, longer in short(parts[1], plain):
-        config = long_field(1, info) + long_field(2, longer)
+    for name, item, longer in short(plain):
+        config = long_field(1, parts[1]) + long_field(2, longer)
         _, status, peak = run(program, config, ("check",))
         if status not in (0, 8):
             sys.exit("%s: status %d" % (program, status))
-        most[name] = max(most.get(name, (0, "")), (peak * 1024 / len(config), item.decode()))
+        most[name] = max(most.get(name, (0, "")), ((peak - own) * 1024 / len(config), item.decode()))
     for name, (times, item) in most.items():
-        print("short items in %s, 1 MiB: peak at most %.1f times the bytes, for %s (at most 12 are meant)" % (name, times, item), flush=True)
+        print("short items in %s, 4 MiB: peak at most %.1f times the bytes beside that, for %s (at most 12 are meant)" % (name, times, item), flush=True)
+    for name, info in empty_objects():
+        config = long_field(1, info) + long_field(2, plain)
+        _, status, peak = run(program, config, ("check",))
+        if status not in (0, 3, 8):
+            sys.exit("%s: status %d" % (program, status))
+        print("empty %s in a P4Info, 1 MiB: peak %.1f times the bytes beside that" % (name, (peak - own) * 1024 / len(config)), flush=True)
 
 
 if __name__ == "__main__":
