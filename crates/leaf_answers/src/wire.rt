@@ -77,7 +77,7 @@ pub fn numbers(alloc: Global, asked: &[&str], told: &mut String) -> Result<(), N
         return Err(NoAnswer);
     };
     let input = bytes(alloc, hex)?;
-    let Ok(message) = Message::read(alloc, &input) else {
+    let Ok(message) = Message::read(&input) else {
         say(told, "Unreadable");
         return Ok(());
     };
@@ -98,6 +98,16 @@ fn read<T: Drop>(found: Result<T, Refusal<Unreadable>>) -> Result<Result<T, Unre
     }
 }
 
+// How many messages a field has.
+fn messages(message: &Message<'_>, number: u32) -> Result<usize, Unreadable> {
+    let mut left = message.messages(number);
+    let mut count: usize = 0;
+    while left.next()?.is_some() {
+        count = count.saturating_add(1);
+    }
+    Ok(count)
+}
+
 fn count<T: Drop>(
     found: Result<Vec<T>, Refusal<Unreadable>>,
 ) -> Result<Result<usize, Unreadable>, NoAnswer> {
@@ -111,14 +121,14 @@ pub fn parts(alloc: Global, asked: &[&str], told: &mut String) -> Result<(), NoA
         return Err(NoAnswer);
     };
     let input = bytes(alloc, hex)?;
-    let Ok(message) = Message::read(alloc, &input) else {
+    let Ok(message) = Message::read(&input) else {
         say(told, "Unreadable");
         return Ok(());
     };
     tell(told, message.bytes(1));
     tell(told, message.text(2));
     tell(told, message.message(3));
-    tell(told, count(message.messages(alloc, 4))?);
+    tell(told, messages(&message, 4));
     tell(told, count(message.texts(alloc, 5))?);
     tell(told, read(message.uint32s(alloc, 6))?);
     tell(told, message.choice(&[7, 8]));

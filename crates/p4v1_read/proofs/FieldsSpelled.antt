@@ -1,6 +1,6 @@
 -- The fields that are computed are those that the bytes spell.
 use Rattle.std.proofs.Common.{◌≡◌, ℕ, zero, suc, ◌≤◌, List, [], ◌∷◌, length, Some, None, Option, Result, Ok, Err, refl, subst, arith}
-use Rattle.std.specs.Prelude.{IfOk, IsErrOf}
+use Rattle.std.specs.Prelude.{IfOk, OnErr}
 use Rattle.std.specs.Result.{result_ok}
 use Rattle.wire_fields.specs.declared.wire.WireFault.{WireFault}
 use Rattle.wire_fields.specs.Fields.{WireField, Spells}
@@ -8,10 +8,8 @@ use Rattle.wire_fields.specs.Field.{Begins}
 use Rattle.wire_fields.specs.Reading.{field_at}
 use Rattle.wire_fields.proofs.Steps.{IsBytes, IsBytes-after, IsBytes-from_All}
 use Rattle.wire_fields.proofs.Messages.{has_field, begins_again, Begins-shorter}
-use Rattle.wire_messages.specs.Answers.{ReadsInMemory}
+use Rattle.wire_messages.specs.Answers.{Reads}
 use Rattle.list_types.specs.Options.{◌>>=◌}
-use Rattle.list_types.specs.declared.memory.Refusal.{Refusal}
-use Rattle.list_types.specs.declared.memory.Refusal.TheVariants.{NoMemory, For}
 use Rattle.wire_messages.specs.declared.errors.Unreadable.{Unreadable}
 use Rattle.p4v1_read.specs.MessageFields.{fields_in, fields_of, FieldsAreSpelled}
 
@@ -66,9 +64,8 @@ none_read bytes fits none None e = e
 none_read bytes fits none (Some fields) e = absurd (none fields (spelled (length bytes) bytes fields fits e))
 
 -- a reading of all fields
-pub read_fields : (bytes : List ℕ) (answer : Result (List WireField) (Refusal Unreadable)) → IsBytes bytes → IfOk answer (λ fields. Spells fields bytes) → (IsErrOf answer (For (record {})) → (fields : List WireField) → Spells fields bytes → ⊥)
-    → ReadsInMemory (λ fields. fields) answer (fields_of bytes)
+pub read_fields : (bytes : List ℕ) (answer : Result (List WireField) Unreadable) → IsBytes bytes → IfOk answer (λ fields. Spells fields bytes) → OnErr answer ((fields : List WireField) → Spells fields bytes → ⊥)
+    → Reads (λ fields. fields) answer (fields_of bytes)
 unfolding fields_of
 read_fields bytes (Ok fields) fits ok none = computed fields (length bytes) bytes (omega arith) ok
-read_fields bytes (Err NoMemory) fits ok none = tt
-read_fields bytes (Err (For cause)) fits ok none = none_read bytes fits (none refl) (fields_of bytes) refl
+read_fields bytes (Err cause) fits ok none = none_read bytes fits none (fields_of bytes) refl

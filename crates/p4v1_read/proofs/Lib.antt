@@ -1,2 +1,3 @@
 pub mod FieldsSpelled
+pub mod Gathered
 pub mod PackedIds

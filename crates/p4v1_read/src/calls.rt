@@ -20,7 +20,7 @@ fn call(alloc: Global, method: Method, bytes: &[u8]) -> Result<Call, Refusal<Unr
         Method::GetForwardingPipelineConfig => Ok(Call::Get(reading::from_bytes(alloc, bytes)?)),
         Method::StreamChannel => Ok(Call::Stream(reading::from_bytes(alloc, bytes)?)),
         Method::Capabilities => {
-            reading::fields(alloc, bytes)?;
+            reading::fields(bytes)?;
             Ok(Call::Capabilities)
         }
     }

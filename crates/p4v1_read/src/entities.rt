@@ -41,7 +41,7 @@ impl Readable for Action {
 fn exact(alloc: Global, message: &Message<'_>) -> Result<FieldMatchKind, Refusal<Unreadable>>
     ensures { ReadsInMemory (λ x. x) result (member_at exact_of 2 message.now) }
 {
-    let inside = reading::inside(alloc, message, 2)?;
+    let inside = reading::inside(message, 2)?;
     let value = reading::bytes(alloc, &inside, 1)?;
     Ok(FieldMatchKind::Exact { value })
 }
@@ -50,7 +50,7 @@ fn exact(alloc: Global, message: &Message<'_>) -> Result<FieldMatchKind, Refusal
 fn ternary(alloc: Global, message: &Message<'_>) -> Result<FieldMatchKind, Refusal<Unreadable>>
     ensures { ReadsInMemory (λ x. x) result (member_at ternary_of 3 message.now) }
 {
-    let inside = reading::inside(alloc, message, 3)?;
+    let inside = reading::inside(message, 3)?;
     let value = reading::bytes(alloc, &inside, 1)?;
     let mask = reading::bytes(alloc, &inside, 2)?;
     Ok(FieldMatchKind::Ternary { value, mask })
@@ -60,7 +60,7 @@ fn ternary(alloc: Global, message: &Message<'_>) -> Result<FieldMatchKind, Refus
 fn lpm(alloc: Global, message: &Message<'_>) -> Result<FieldMatchKind, Refusal<Unreadable>>
     ensures { ReadsInMemory (λ x. x) result (member_at lpm_of 4 message.now) }
 {
-    let inside = reading::inside(alloc, message, 4)?;
+    let inside = reading::inside(message, 4)?;
     let value = reading::bytes(alloc, &inside, 1)?;
     let prefix_len = inside.int32(2)?;
     Ok(FieldMatchKind::Lpm { value, prefix_len })
@@ -70,7 +70,7 @@ fn lpm(alloc: Global, message: &Message<'_>) -> Result<FieldMatchKind, Refusal<U
 fn range(alloc: Global, message: &Message<'_>) -> Result<FieldMatchKind, Refusal<Unreadable>>
     ensures { ReadsInMemory (λ x. x) result (member_at range_of 6 message.now) }
 {
-    let inside = reading::inside(alloc, message, 6)?;
+    let inside = reading::inside(message, 6)?;
     let low = reading::bytes(alloc, &inside, 1)?;
     let high = reading::bytes(alloc, &inside, 2)?;
     Ok(FieldMatchKind::Range { low, high })
@@ -80,7 +80,7 @@ fn range(alloc: Global, message: &Message<'_>) -> Result<FieldMatchKind, Refusal
 fn optional(alloc: Global, message: &Message<'_>) -> Result<FieldMatchKind, Refusal<Unreadable>>
     ensures { ReadsInMemory (λ x. x) result (member_at optional_of 7 message.now) }
 {
-    let inside = reading::inside(alloc, message, 7)?;
+    let inside = reading::inside(message, 7)?;
     let value = reading::bytes(alloc, &inside, 1)?;
     Ok(FieldMatchKind::Optional { value })
 }

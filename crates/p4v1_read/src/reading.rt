@@ -19,16 +19,16 @@ pub(crate) trait Readable: Drop {
         ensures { ReadsInMemory (λ x. x) result (meaning message.now) };
 }
 
-pub(crate) fn fields<'a>(alloc: Global, bytes: &'a [u8]) -> Result<Message<'a>, Refusal<Unreadable>>
-    ensures { ReadsInMemory (λ message. message) result (fields_of bytes.now) }
+pub(crate) fn fields(bytes: &[u8]) -> Result<Message<'_>, Unreadable>
+    ensures { Reads (λ message. message) result (fields_of bytes.now) }
 {
-    Message::read(alloc, bytes)
+    Message::read(bytes)
 }
 
 pub(crate) fn from_bytes<T: Readable>(alloc: Global, bytes: &[u8]) -> Result<T, Refusal<Unreadable>>
     ensures { ReadsInMemory (λ x. x) result (read T.meaning bytes.now) }
 {
-    let message = fields(alloc, bytes)?;
+    let message = fields(bytes)?;
     T::read(alloc, &message)
 }
 
@@ -46,16 +46,6 @@ pub(crate) fn one<T: Readable>(
     }
 }
 
-fn each_of<T: Readable>(alloc: Global, messages: &[&[u8]]) -> Result<List<T>, Refusal<Unreadable>>
-    ensures { ReadsInMemory (λ x. x) result (each (read T.meaning) (map (λ x. x.now) messages.now)) }
-{
-    let mut list = List::new(alloc);
-    for bytes in messages {
-        list.push(from_bytes(alloc, bytes)?)?;
-    }
-    Ok(list)
-}
-
 #[tactic(auto, unfolding(crate::specs::Nested::all_at))]
 pub(crate) fn all<T: Readable>(
     alloc: Global,
@@ -64,21 +54,21 @@ pub(crate) fn all<T: Readable>(
 ) -> Result<List<T>, Refusal<Unreadable>>
     ensures { ReadsInMemory (λ x. x) result (all_at T.meaning number message.now) }
 {
-    let messages = message.messages(alloc, number)?;
-    each_of(alloc, messages.as_slice())
+    let mut list = List::new(alloc);
+    let mut left = message.messages(number);
+    'messages: while let Some(bytes) = left.next()? {
+        list.push(from_bytes(alloc, bytes)?)?;
+    }
+    Ok(list)
 }
 
 #[tactic(auto, unfolding(crate::specs::Nested::inside_at))]
-pub(crate) fn inside<'a>(
-    alloc: Global,
-    message: &Message<'a>,
-    number: u32,
-) -> Result<Message<'a>, Refusal<Unreadable>>
-    ensures { ReadsInMemory (λ x. x) result (inside_at number message.now) }
+pub(crate) fn inside<'a>(message: &Message<'a>, number: u32) -> Result<Message<'a>, Unreadable>
+    ensures { Reads (λ message. message) result (inside_at number message.now) }
 {
     match message.message(number)? {
-        Some(bytes) => fields(alloc, bytes),
-        None => Err(Refusal::For(Unreadable)),
+        Some(bytes) => fields(bytes),
+        None => Err(Unreadable),
     }
 }
 
@@ -90,7 +80,7 @@ pub(crate) fn member<T: Readable>(
 ) -> Result<T, Refusal<Unreadable>>
     ensures { ReadsInMemory (λ x. x) result (member_at T.meaning number message.now) }
 {
-    let inside = inside(alloc, message, number)?;
+    let inside = inside(message, number)?;
     T::read(alloc, &inside)
 }
 

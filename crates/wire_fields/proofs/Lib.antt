@@ -6,3 +6,4 @@ pub mod Messages
 pub mod Shortest
 pub mod LawProofs
 pub mod ReadSoFar
+pub mod Shrinking

@@ -1,17 +1,14 @@
 -- Memory is asked for only once the first of the values is read.
-use Rattle.std.proofs.Common.{◌≡◌, ℕ, zero, suc, ◌+◌, ◌<◌, Bool, true, false, cond, eqb, is_some, List, [], ◌∷◌, length, map, drop, Option, Some, None, refl, ap, ◌∙◌, slice_index_or}
+use Rattle.std.proofs.Common.{◌≡◌, ℕ, zero, suc, Bool, true, false, cond, eqb, is_some, List, [], ◌∷◌, length, map, Option, Some, None, refl, ap, ◌∙◌}
 use Rattle.std.specs.List.{filter}
 use Rattle.std.specs.Result.{result_ok}
 use Rattle.std.proofs.lemmas.Bool.{eq-eqb}
 use Rattle.list_types.specs.Options.{◌>>=◌}
-use Rattle.wire_fields.specs.declared.wire.Field.{Field}
 use Rattle.wire_fields.specs.Fields.{Payload, Varint, Fixed64, Bytes, Fixed32, WireField}
-use Rattle.wire_fields.specs.Field.{field_of}
 use Rattle.wire_fields.specs.Reading.{varint_in, varint_at}
 use Rattle.wire_messages.specs.Answers.{first_is_read, packed_first, first_number_is_read}
 use Rattle.wire_messages.specs.Message.{each, given, packed_in, numbers_of}
 use Rattle.wire_messages.specs.Numbers.{as_uint32}
-use Rattle.wire_messages.proofs.Scanning.{next_of}
 
 -- A test of whether memory is asked for: a payload that is read does not end it, and what it says of the first it says of all.
 pub record Asks {A : Type 0} (read : Payload → Option A) (asks : List Payload → Bool) : Type 0 where
@@ -37,23 +34,19 @@ begins_at read asks law false field others asked = absurd (let none = law.none i
 begins_at read asks law true field others asked = law.begins field.payload (map (λ field. field.payload) others) asked
 
 -- a field that is read leaves the question to the fields behind it
-pub asks_next : {A S : Type 0} (read : Payload → Option A) (asks : List Payload → Bool) → Asks read asks → (kept : List A → S) (number : ℕ) (items : List Field) (i : ℕ) (d : Field) (after : S) (whole : Bool)
-    → (asks (given number (map field_of (drop i items))) ≡ true → whole ≡ true) → i < length items
-    → (each read (given number (field_of (slice_index_or items i d) ∷ [])) >>= λ values. Some (kept values)) ≡ Some after
-    → asks (given number (map field_of (drop (i + 1) items))) ≡ true → whole ≡ true
-asks_next read asks law kept number items i d after whole so_far h step asked =
-    let field = field_of (slice_index_or items i d) in
-    let others = map field_of (drop (i + 1) items) in
-    so_far (ap (λ x. asks (given number x)) (next_of items i d h) ∙ passes_at read asks law kept (eqb field.number number) field (filter (λ field. eqb field.number number) others) after step asked)
+pub asks_next : {A S : Type 0} (read : Payload → Option A) (asks : List Payload → Bool) → Asks read asks → (kept : List A → S) (number : ℕ) (all others : List WireField) (field : WireField) (after : S) (whole : Bool)
+    → all ≡ field ∷ others → (asks (given number all) ≡ true → whole ≡ true)
+    → (each read (given number (field ∷ [])) >>= λ values. Some (kept values)) ≡ Some after
+    → asks (given number others) ≡ true → whole ≡ true
+asks_next read asks law kept number all others field after whole first so_far step asked =
+    so_far (ap (λ x. asks (given number x)) first ∙ passes_at read asks law kept (eqb field.number number) field (filter (λ field. eqb field.number number) others) after step asked)
 
 -- a field that asks for memory answers for all
-pub asks_here : {A : Type 0} (read : Payload → Option A) (asks : List Payload → Bool) → Asks read asks → (number : ℕ) (items : List Field) (i : ℕ) (d : Field) (whole : Bool)
-    → (asks (given number (map field_of (drop i items))) ≡ true → whole ≡ true) → i < length items
-    → asks (given number (field_of (slice_index_or items i d) ∷ [])) ≡ true → whole ≡ true
-asks_here read asks law number items i d whole so_far h asked =
-    let field = field_of (slice_index_or items i d) in
-    let others = map field_of (drop (i + 1) items) in
-    so_far (ap (λ x. asks (given number x)) (next_of items i d h) ∙ begins_at read asks law (eqb field.number number) field (filter (λ field. eqb field.number number) others) asked)
+pub asks_here : {A : Type 0} (read : Payload → Option A) (asks : List Payload → Bool) → Asks read asks → (number : ℕ) (all others : List WireField) (field : WireField) (whole : Bool)
+    → all ≡ field ∷ others → (asks (given number all) ≡ true → whole ≡ true)
+    → asks (given number (field ∷ [])) ≡ true → whole ≡ true
+asks_here read asks law number all others field whole first so_far asked =
+    so_far (ap (λ x. asks (given number x)) first ∙ begins_at read asks law (eqb field.number number) field (filter (λ field. eqb field.number number) others) asked)
 
 pub first_asks : {A : Type 0} (read : Payload → Option A) → Asks read (first_is_read read)
 first_asks read = record {

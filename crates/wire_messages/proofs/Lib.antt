@@ -1,5 +1,5 @@
 pub mod Scanning
-pub mod Reading
+pub mod Walking
 pub mod Packed
 pub mod Asking
 pub mod WrittenBytes

@@ -1,12 +1,8 @@
 -- Scans of the fields of a message, field by field.
-use Rattle.std.proofs.Common.{◌≡◌, ℕ, ◌+◌, ◌<◌, ◌≤◌, Bool, true, false, cond, eqb, List, [], ◌∷◌, ◌++◌, length, map, drop, Option, Some, None, Result, Ok, Err, refl, sym, ap, ◌∙◌, append_assoc, add-one, slice_index_or}
+use Rattle.std.proofs.Common.{◌≡◌, ℕ, Bool, true, false, cond, eqb, List, [], ◌∷◌, ◌++◌, map, Option, Some, None, Result, Ok, Err, refl, sym, ap, ◌∙◌, append_assoc}
 use Rattle.std.specs.List.{filter, cons_option}
 use Rattle.std.proofs.lemmas.List.{append-nil}
-use Rattle.std.proofs.Math.Seq.{drop-cons}
-use Rattle.std.proofs.Math.ListN.{drop_of_length-le}
-use Rattle.wire_fields.specs.declared.wire.Field.{Field}
 use Rattle.wire_fields.specs.Fields.{Payload, WireField}
-use Rattle.wire_fields.specs.Field.{field_of}
 use Rattle.std.specs.Str.{IsUtf8, is_utf8}
 use Rattle.std.proofs.lemmas.Str.{IsUtf8-from_is_utf8, is_utf8-from_IsUtf8}
 use Rattle.list_types.specs.Options.{◌>>=◌}
@@ -23,29 +19,20 @@ pub record Scan {S : Type 0} (rest : S → List WireField → Option S) : Type 0
   pub at_end : (before : S) → rest before [] ≡ Some before
   pub more : (before : S) (field : WireField) (fields : List WireField) → rest before (field ∷ fields) ≡ (rest before (field ∷ []) >>= λ after. rest after fields)
 
-pub next_of : (items : List Field) (i : ℕ) (d : Field) → i < length items → map field_of (drop i items) ≡ field_of (slice_index_or items i d) ∷ map field_of (drop (i + 1) items)
-next_of items i d h = rw (add-one) (ap (λ x. map field_of x) (drop-cons items i d h))
+pub scan_next : {S : Type 0} (rest : S → List WireField → Option S) → Scan rest → (all others : List WireField) (field : WireField) (before after : S) (whole : Option S)
+    → all ≡ field ∷ others → rest before all ≡ whole → rest before (field ∷ []) ≡ Some after → rest after others ≡ whole
+scan_next rest scan all others field before after whole first e step =
+    sym (ap (λ x. x >>= λ after. rest after others) step) ∙ sym (scan.more before field others) ∙ sym (ap (λ x. rest before x) first) ∙ e
 
-pub scan_next : {S : Type 0} (rest : S → List WireField → Option S) → Scan rest → (items : List Field) (i : ℕ) (d : Field) (before after : S) (whole : Option S)
-    → rest before (map field_of (drop i items)) ≡ whole → i < length items → rest before (field_of (slice_index_or items i d) ∷ []) ≡ Some after
-    → rest after (map field_of (drop (i + 1) items)) ≡ whole
-scan_next rest scan items i d before after whole e h step =
-    let others = map field_of (drop (i + 1) items) in
-    let field = field_of (slice_index_or items i d) in
-    sym (ap (λ x. x >>= λ after. rest after others) step) ∙ sym (scan.more before field others) ∙ sym (ap (λ x. rest before x) (next_of items i d h)) ∙ e
+pub scan_refused : {S : Type 0} (rest : S → List WireField → Option S) → Scan rest → (all others : List WireField) (field : WireField) (before : S) (whole : Option S)
+    → all ≡ field ∷ others → rest before all ≡ whole → rest before (field ∷ []) ≡ None → whole ≡ None
+scan_refused rest scan all others field before whole first e step =
+    sym e ∙ ap (λ x. rest before x) first ∙ scan.more before field others ∙ ap (λ x. x >>= λ after. rest after others) step
 
-pub scan_refused : {S : Type 0} (rest : S → List WireField → Option S) → Scan rest → (items : List Field) (i : ℕ) (d : Field) (before : S) (whole : Option S)
-    → rest before (map field_of (drop i items)) ≡ whole → i < length items → rest before (field_of (slice_index_or items i d) ∷ []) ≡ None
-    → whole ≡ None
-scan_refused rest scan items i d before whole e h step =
-    let others = map field_of (drop (i + 1) items) in
-    let field = field_of (slice_index_or items i d) in
-    sym e ∙ ap (λ x. rest before x) (next_of items i d h) ∙ scan.more before field others ∙ ap (λ x. x >>= λ after. rest after others) step
-
-pub scan_end : {S : Type 0} (rest : S → List WireField → Option S) → Scan rest → (items : List Field) (i : ℕ) (before : S) (whole : Option S)
-    → rest before (map field_of (drop i items)) ≡ whole → length items ≤ i → whole ≡ Some before
-scan_end rest scan items i before whole e h =
-    sym e ∙ ap (λ x. rest before (map field_of x)) (drop_of_length-le items h) ∙ scan.at_end before
+pub scan_end : {S : Type 0} (rest : S → List WireField → Option S) → Scan rest → (all : List WireField) (before : S) (whole : Option S)
+    → all ≡ [] → rest before all ≡ whole → whole ≡ Some before
+scan_end rest scan all before whole none e =
+    sym e ∙ ap (λ x. rest before x) none ∙ scan.at_end before
 
 last_bind : {A : Type 0} (before : A) (first : Option A) (others : Option (List A)) →
     ((first >>= λ y. others >>= λ ys. Some (y ∷ ys)) >>= λ values. Some (last_or before values))

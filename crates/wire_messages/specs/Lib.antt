@@ -1,3 +1,4 @@
+pub mod Walk
 pub mod Message
 pub mod Numbers
 pub mod Answers

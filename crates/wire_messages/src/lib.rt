@@ -4,9 +4,12 @@
 mod errors;
 pub mod laws;
 mod message;
+mod messages;
 mod steps;
 mod values;
+mod walk;
 pub mod write;
 
 pub use errors::Unreadable;
 pub use message::Message;
+pub use messages::Messages;

@@ -1,51 +1,57 @@
 //! A message by the numbers of its fields.
-ghost use Rattle.std.specs.Prelude.{◌≡◌, ◌≢◌, List, [], map, true, Err, None, IfOk, IsErrOf};
+ghost use Rattle.std.specs.Prelude.{◌≡◌, List, map, true, Err, IfOk, OnErr};
 ghost use Rattle.std.specs.Option.{option_map};
 ghost use Rattle.wire_fields.specs.Fields.{WireField, Spells};
-ghost use Rattle.wire_fields.specs.Reading.{fault_at};
 ghost use Rattle.wire_messages.specs.Answers.{Reads, ReadsInMemory, first_is_read, first_number_is_read};
-ghost use Rattle.wire_messages.specs.Message.{uint32_at, uint64_at, int32_at, int64_at, bool_at, bytes_at, text_at, message_at, messages_at, texts_at, uint32s_at, bytes_of, given, is_given, choice_at, only_known};
+ghost use Rattle.wire_messages.specs.Message.{uint32_at, uint64_at, int32_at, int64_at, bool_at, bytes_at, text_at, message_at, texts_at, uint32s_at, given, is_given, choice_at, only_known};
 ghost use Rattle.wire_messages.specs.Scans.{text_of};
 
 use crate::errors::Unreadable;
+use crate::messages::Messages;
+use crate::walk::Walk;
 use crate::{steps, values};
 use list_types::Refusal;
 use std::alloc::Global;
 use std::marker::Model;
-use wire_fields::{Field, Fields};
+use wire_fields::Fields;
 
-/// The fields of a message, to be read by their numbers. A contract sees the list of the fields.
+/// The fields of a message, to be read by their numbers. They are walked over in its bytes for each number that is asked
+/// for. A contract sees the list of the fields.
 #[derive(Drop)]
 pub struct Message<'a> {
-    fields: Vec<Field<'a>>,
+    bytes: &'a [u8],
 }
 
 impl<'a> Model for Message<'a> {
-    ghost use Rattle.std.specs.Prelude.{List, map};
+    ghost use Rattle.std.specs.Prelude.{List};
     ghost use Rattle.wire_fields.specs.Fields.{WireField};
-    ghost use Rattle.wire_fields.specs.Field.{field_of};
+    ghost use Rattle.wire_messages.specs.Walk.{walked};
 
     ghost Value = { List WireField };
 
-    ghost view = { λ message. map field_of message.fields.items };
+    ghost view = { λ message. walked message.bytes.now };
 }
 
 impl<'a> Message<'a> {
-    /// The message that the bytes are. It takes memory for the fields, and copies no bytes.
-    pub fn read(alloc: Global, bytes: &'a [u8]) -> Result<Message<'a>, Refusal<Unreadable>>
+    /// The message that the bytes are. It takes no memory, and copies no bytes.
+    pub fn read(bytes: &'a [u8]) -> Result<Message<'a>, Unreadable>
         ensures ok { IfOk result (λ message. Spells message bytes.now) }
-        ensures unreadable { IsErrOf result (Refusal.For (record {})) → (fields : List WireField) → Spells fields bytes.now → ⊥ }
-        ensures memory { result ≡ Err Refusal.NoMemory → (bytes.now ≢ []) × (fault_at bytes.now ≡ None) }
+        ensures unreadable { OnErr result ((fields : List WireField) → Spells fields bytes.now → ⊥) }
     {
         let mut left = Fields::new(bytes);
-        let mut fields = Vec::new(alloc);
         loop {
             match left.next() {
-                Ok(Some(field)) => fields.push(field)?,
-                Ok(None) => return Ok(Message { fields }),
-                Err(_) => return Err(Refusal::For(Unreadable)),
+                Ok(Some(_)) => {}
+                Ok(None) => return Ok(Message { bytes }),
+                Err(_) => return Err(Unreadable),
             }
         }
+    }
+
+    fn fields(&self) -> Walk<'a>
+        ensures { result ≡ self.now }
+    {
+        Walk::new(self.bytes)
     }
 
     /// A `uint32` field: the last that is given, or 0.
@@ -53,8 +59,9 @@ impl<'a> Message<'a> {
         ensures { Reads (λ x. x) result (uint32_at number self.now) }
     {
         let mut value = 0;
-        for field in &self.fields {
-            value = steps::next_uint32(value, *field, number)?;
+        let mut left = self.fields();
+        'fields: while let Some(field) = left.next() {
+            value = steps::next_uint32(value, field, number)?;
         }
         Ok(value)
     }
@@ -64,8 +71,9 @@ impl<'a> Message<'a> {
         ensures { Reads (λ x. x) result (uint64_at number self.now) }
     {
         let mut value = 0;
-        for field in &self.fields {
-            value = steps::next_uint64(value, *field, number)?;
+        let mut left = self.fields();
+        'fields: while let Some(field) = left.next() {
+            value = steps::next_uint64(value, field, number)?;
         }
         Ok(value)
     }
@@ -75,8 +83,9 @@ impl<'a> Message<'a> {
         ensures { Reads (λ x. x) result (int32_at number self.now) }
     {
         let mut value = 0;
-        for field in &self.fields {
-            value = steps::next_int32(value, *field, number)?;
+        let mut left = self.fields();
+        'fields: while let Some(field) = left.next() {
+            value = steps::next_int32(value, field, number)?;
         }
         Ok(value)
     }
@@ -86,8 +95,9 @@ impl<'a> Message<'a> {
         ensures { Reads (λ x. x) result (int64_at number self.now) }
     {
         let mut value = 0;
-        for field in &self.fields {
-            value = steps::next_int64(value, *field, number)?;
+        let mut left = self.fields();
+        'fields: while let Some(field) = left.next() {
+            value = steps::next_int64(value, field, number)?;
         }
         Ok(value)
     }
@@ -97,8 +107,9 @@ impl<'a> Message<'a> {
         ensures { Reads (λ x. x) result (bool_at number self.now) }
     {
         let mut value = false;
-        for field in &self.fields {
-            value = steps::next_boolean(value, *field, number)?;
+        let mut left = self.fields();
+        'fields: while let Some(field) = left.next() {
+            value = steps::next_boolean(value, field, number)?;
         }
         Ok(value)
     }
@@ -108,8 +119,9 @@ impl<'a> Message<'a> {
         ensures { Reads (λ x. x.now) result (bytes_at number self.now) }
     {
         let mut value: &'a [u8] = &[];
-        for field in &self.fields {
-            value = steps::next_bytes(value, *field, number)?;
+        let mut left = self.fields();
+        'fields: while let Some(field) = left.next() {
+            value = steps::next_bytes(value, field, number)?;
         }
         Ok(value)
     }
@@ -119,8 +131,9 @@ impl<'a> Message<'a> {
         ensures { Reads (λ x. x.now) result (text_at number self.now) }
     {
         let mut value: &'a str = "";
-        for field in &self.fields {
-            value = steps::next_text(value, *field, number)?;
+        let mut left = self.fields();
+        'fields: while let Some(field) = left.next() {
+            value = steps::next_text(value, field, number)?;
         }
         Ok(value)
     }
@@ -130,22 +143,18 @@ impl<'a> Message<'a> {
         ensures { Reads (option_map (λ x. x.now)) result (message_at number self.now) }
     {
         let mut value: Option<&'a [u8]> = None;
-        for field in &self.fields {
-            value = steps::next_message(value, *field, number)?;
+        let mut left = self.fields();
+        'fields: while let Some(field) = left.next() {
+            value = steps::next_message(value, field, number)?;
         }
         Ok(value)
     }
 
-    /// The bytes of each message, or each `bytes`, in a repeated field.
-    pub fn messages(&self, alloc: Global, number: u32) -> Result<Vec<&'a [u8]>, Refusal<Unreadable>>
-        ensures exact { ReadsInMemory (λ list. map (λ x. x.now) list.items) result (messages_at number self.now) }
-        ensures memory { result ≡ Err Refusal.NoMemory → first_is_read bytes_of (given number self.now) ≡ true }
+    /// The bytes of each message, or each `bytes`, in a repeated field, one after another. It takes no memory.
+    pub fn messages(&self, number: u32) -> Messages<'a>
+        ensures { result ≡ given number self.now }
     {
-        let mut found = Vec::new(alloc);
-        for field in &self.fields {
-            steps::push_bytes(&mut found, *field, number)?;
-        }
-        Ok(found)
+        Messages::new(self.fields(), number)
     }
 
     /// Each `string` in a repeated field, in UTF-8.
@@ -154,8 +163,9 @@ impl<'a> Message<'a> {
         ensures memory { result ≡ Err Refusal.NoMemory → first_is_read text_of (given number self.now) ≡ true }
     {
         let mut found = Vec::new(alloc);
-        for field in &self.fields {
-            steps::push_text(&mut found, *field, number)?;
+        let mut left = self.fields();
+        'fields: while let Some(field) = left.next() {
+            steps::push_text(&mut found, field, number)?;
         }
         Ok(found)
     }
@@ -166,8 +176,9 @@ impl<'a> Message<'a> {
         ensures memory { result ≡ Err Refusal.NoMemory → first_number_is_read (given number self.now) ≡ true }
     {
         let mut found = Vec::new(alloc);
-        for field in &self.fields {
-            steps::push_numbers(&mut found, *field, number)?;
+        let mut left = self.fields();
+        'fields: while let Some(field) = left.next() {
+            steps::push_numbers(&mut found, field, number)?;
         }
         Ok(found)
     }
@@ -176,8 +187,9 @@ impl<'a> Message<'a> {
     pub fn is_given(&self, number: u32) -> bool
         ensures { result ≡ is_given number self.now }
     {
-        for field in &self.fields {
-            if values::number_of(*field) == number {
+        let mut left = self.fields();
+        'fields: while let Some(field) = left.next() {
+            if values::number_of(field) == number {
                 return true;
             }
         }
@@ -207,8 +219,9 @@ impl<'a> Message<'a> {
     pub fn has_only(&self, known: &[u32]) -> bool
         ensures { result ≡ only_known known.now self.now }
     {
-        for field in &self.fields {
-            if !known.contains(&values::number_of(*field)) {
+        let mut left = self.fields();
+        'fields: while let Some(field) = left.next() {
+            if !known.contains(&values::number_of(field)) {
                 return false;
             }
         }

@@ -105,20 +105,6 @@ pub(crate) fn next_message<'a>(
     Ok(Some(bytes))
 }
 
-pub(crate) fn push_bytes<'a>(
-    found: &mut Vec<&'a [u8]>,
-    field: Field<'a>,
-    number: u32,
-) -> Result<(), Refusal<Unreadable>>
-    ensures exact { ReadsInMemory (λ _. map (λ x. x.now) found.new.items) result (all_from bytes_of number (map (λ x. x.now) found.old.items) (field_of field.entry ∷ [])) }
-    ensures memory { result ≡ Err Refusal.NoMemory → first_is_read bytes_of (given number (field_of field.entry ∷ [])) ≡ true }
-{
-    if values::number_of(field) == number {
-        found.push(values::bytes(field)?)?;
-    }
-    Ok(())
-}
-
 pub(crate) fn push_text<'a>(
     found: &mut Vec<&'a str>,
     field: Field<'a>,

@@ -1,7 +1,9 @@
-use Rattle.std.proofs.Common.{◌≡◌, map, drop}
-use Rattle.wire_fields.specs.Field.{field_of}
+use Rattle.std.proofs.Common.{◌≡◌, length}
 use Rattle.wire_messages.specs.Message.{only_known}
 use Rattle.wire_messages.proofs.message.Message.has_only.Given as goal
 
-abbrev pub invariant-loop-field : goal.invariant-loop-field
-invariant-loop-field l = only_known l.known (map field_of (drop l.field-index l.field-items)) ≡ only_known l.known l.self
+abbrev pub invariant-fields : goal.invariant-fields
+invariant-fields l = only_known l.known l.left ≡ only_known l.known l.self
+
+abbrev pub decreases-fields : goal.decreases-fields
+decreases-fields l = length l.left

@@ -1,9 +1,9 @@
-use Rattle.std.proofs.Common.{length, map}
-use Rattle.wire_fields.specs.Field.{field_of, AreRead}
+use Rattle.std.proofs.Common.{length}
+use Rattle.wire_messages.proofs.Walking.{Decides}
 use Rattle.wire_messages.proofs.message.Message.read.Given as goal
 
-abbrev pub invariant-loop-field : goal.invariant-loop-field
-invariant-loop-field l = AreRead (map field_of l.fields.items) l.bytes l.left
+abbrev pub invariant-loop : goal.invariant-loop
+invariant-loop l = Decides l.bytes l.left
 
-abbrev pub decreases-loop-field : goal.decreases-loop-field
-decreases-loop-field l = length l.left
+abbrev pub decreases-loop : goal.decreases-loop
+decreases-loop l = length l.left

@@ -1,8 +1,10 @@
-use Rattle.std.proofs.Common.{◌≡◌, map, drop}
-use Rattle.wire_fields.specs.Field.{field_of}
+use Rattle.std.proofs.Common.{◌≡◌, length}
 use Rattle.wire_messages.specs.Message.{number_at, uint32_at}
 use Rattle.wire_messages.specs.Numbers.{as_uint32}
 use Rattle.wire_messages.proofs.message.Message.uint32.Given as goal
 
-abbrev pub invariant-loop-field : goal.invariant-loop-field
-invariant-loop-field l = number_at as_uint32 l.value l.number (map field_of (drop l.field-index l.field-items)) ≡ uint32_at l.number l.self
+abbrev pub invariant-fields : goal.invariant-fields
+invariant-fields l = number_at as_uint32 l.value l.number l.left ≡ uint32_at l.number l.self
+
+abbrev pub decreases-fields : goal.decreases-fields
+decreases-fields l = length l.left
