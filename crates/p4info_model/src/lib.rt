@@ -3,13 +3,13 @@
 
 mod flaw;
 mod index;
-mod numbers;
+pub mod numbers;
 mod objects;
 mod parts;
 mod places;
 mod read;
 mod references;
-mod repeats;
+pub mod repeats;
 mod resolve;
 mod rules;
 mod valid;

@@ -5,7 +5,7 @@ ghost use Rattle.p4info_model.specs.Numbers.{width_of, size_of, kind_of, scope_o
 use p4_types::info::{MatchKind, Scope};
 
 /// A width in bits, 1 to 128.
-pub(crate) fn width_of(bits: i32) -> Option<u32>
+pub fn width_of(bits: i32) -> Option<u32>
     ensures { result ≡ width_of bits }
 {
     if bits < 1 || bits > 128 {
@@ -14,7 +14,7 @@ pub(crate) fn width_of(bits: i32) -> Option<u32>
     Some(bits as u32)
 }
 
-pub(crate) fn size_of(number: i64) -> Option<u64>
+pub fn size_of(number: i64) -> Option<u64>
     ensures size { result ≡ size_of number }
     ensures small { IfSome result (λ size. size < 2 ^ 63) }
 {
@@ -24,7 +24,7 @@ pub(crate) fn size_of(number: i64) -> Option<u64>
     Some(number as u64)
 }
 
-pub(crate) fn small_size_of(number: i32) -> Option<u32>
+pub fn small_size_of(number: i32) -> Option<u32>
     ensures size { result ≡ size_of number }
     ensures small { IfSome result (λ size. size < 2 ^ 31) }
 {
@@ -34,7 +34,7 @@ pub(crate) fn small_size_of(number: i32) -> Option<u32>
     Some(number as u32)
 }
 
-pub(crate) fn kind_of(number: i32) -> Option<MatchKind>
+pub fn kind_of(number: i32) -> Option<MatchKind>
     ensures { result ≡ kind_of number }
 {
     match number {
@@ -47,7 +47,7 @@ pub(crate) fn kind_of(number: i32) -> Option<MatchKind>
     }
 }
 
-pub(crate) fn scope_of(number: i32) -> Option<Scope>
+pub fn scope_of(number: i32) -> Option<Scope>
     ensures { result ≡ scope_of number }
 {
     match number {
@@ -59,7 +59,7 @@ pub(crate) fn scope_of(number: i32) -> Option<Scope>
 }
 
 /// An id, where 0 names nothing.
-pub(crate) fn named(id: u32) -> Option<u32>
+pub fn named(id: u32) -> Option<u32>
     ensures { result ≡ named id }
 {
     if id == 0 { None } else { Some(id) }

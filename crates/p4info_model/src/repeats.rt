@@ -43,7 +43,7 @@ fn differ<T: Ord + Copy>(alloc: Global, items: &[T], others: &[T]) -> Result<boo
 
 /// Whether a number occurs twice.
 #[tactic(auto, using(crate::proofs::Sameness::numbers_repeat))]
-pub(crate) fn numbers_repeat(alloc: Global, numbers: &[u32]) -> Result<bool, NoMemory>
+pub fn numbers_repeat(alloc: Global, numbers: &[u32]) -> Result<bool, NoMemory>
     ensures { IfOk result (λ answer. answer ≡ repeats nat_eq numbers.now) }
 {
     repeats(alloc, numbers)
@@ -51,7 +51,7 @@ pub(crate) fn numbers_repeat(alloc: Global, numbers: &[u32]) -> Result<bool, NoM
 
 /// Whether a text occurs twice.
 #[tactic(auto, using(crate::proofs::Sameness::texts_repeat))]
-pub(crate) fn texts_repeat(alloc: Global, texts: &[&str]) -> Result<bool, NoMemory>
+pub fn texts_repeat(alloc: Global, texts: &[&str]) -> Result<bool, NoMemory>
     ensures { IfOk result (λ answer. answer ≡ repeats bytes_eq (map (λ x. x.now) texts.now)) }
 {
     repeats(alloc, texts)
@@ -59,7 +59,7 @@ pub(crate) fn texts_repeat(alloc: Global, texts: &[&str]) -> Result<bool, NoMemo
 
 /// Whether a number is missing.
 #[tactic(auto, using(crate::proofs::Sameness::lacks_numbers))]
-pub(crate) fn lacks_numbers(alloc: Global, whole: &[u32], parts: &[u32]) -> Result<bool, NoMemory>
+pub fn lacks_numbers(alloc: Global, whole: &[u32], parts: &[u32]) -> Result<bool, NoMemory>
     ensures { IfOk result (λ answer. answer ≡ lacks_some nat_eq whole.now parts.now) }
 {
     lacks_some(alloc, whole, parts)
@@ -67,7 +67,7 @@ pub(crate) fn lacks_numbers(alloc: Global, whole: &[u32], parts: &[u32]) -> Resu
 
 /// Whether two lists have not the same pairs.
 #[tactic(auto, using(crate::proofs::Sameness::pairs_differ))]
-pub(crate) fn pairs_differ(
+pub fn pairs_differ(
     alloc: Global,
     pairs: &[(u32, u32)],
     others: &[(u32, u32)],
