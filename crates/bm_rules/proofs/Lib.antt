@@ -1,4 +1,5 @@
 pub mod Inside
 pub mod Laid
+pub mod Neighbours
 pub mod Peeled
 pub mod Sameness

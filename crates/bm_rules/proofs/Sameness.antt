@@ -8,7 +8,7 @@ use Rattle.std.specs.Cmp.Lexicographic.{slice_cmp}
 use Rattle.std.proofs.lemmas.Map.Text.{is_eq-slice_cmp}
 use Rattle.std.proofs.lemmas.List.{length-map}
 use Rattle.std.proofs.lemmas.Bool.Decides.{nat_tests}
-use Rattle.bm_rules.specs.Names.{repeats, names_repeat, lack, name_nothing}
+use Rattle.bm_rules.specs.Names.{repeats, lack, name_nothing}
 
 -- the same test of each item
 pub list_any_same : {A : Type 0} (p q : A → Bool) → ((x : A) → p x ≡ q x) → (xs : List A) → list_any p xs ≡ list_any q xs
@@ -35,7 +35,7 @@ map_itself [] = refl
 map_itself (x ∷ xs) = ap (λ ys. x ∷ ys) (map_itself xs)
 
 -- items that are told apart by what they are seen as
-repeats_seen : {A B : Type 0} (f : A → B) (e : B → B → Bool) (c : A → A → Bool) → ((x y : A) → c x y ≡ e (f x) (f y)) → (xs : List A) → repeats c xs ≡ repeats e (map f xs)
+pub repeats_seen : {A B : Type 0} (f : A → B) (e : B → B → Bool) (c : A → A → Bool) → ((x y : A) → c x y ≡ e (f x) (f y)) → (xs : List A) → repeats c xs ≡ repeats e (map f xs)
 repeats_seen f e c same xs = ap (λ n. nat_lt n (length xs)) (unique_length f e c same xs) ∙ ap (nat_lt (distinct_count e (map f xs))) (sym (length-map xs f))
 
 -- the order of numbers tells them apart
@@ -45,14 +45,6 @@ numbers_same x y = grind (arith, nat_tests)
 pub numbers_repeat : (xs : List ℕ) → repeats (eq_by_cmp nat_cmp) xs ≡ repeats nat_eq xs
 numbers_repeat xs = repeats_seen (λ x. x) nat_eq (eq_by_cmp nat_cmp) numbers_same xs ∙ ap (repeats nat_eq) (map_itself xs)
 
-pub texts_repeat : (xs : List (Bor (List ℕ))) → repeats (eq_by_cmp (λ x y. slice_cmp nat_cmp x.now y.now)) xs ≡ names_repeat (map (λ x. x.now) xs)
-texts_repeat xs = repeats_seen (λ x. x.now) bytes_eq (eq_by_cmp (λ x y. slice_cmp nat_cmp x.now y.now)) (λ x y. is_eq-slice_cmp x.now y.now) xs
-
--- the images of two lists
-pub map_both : {A B : Type 0} (f : A → B) (xs ys : List A) → map f (xs ++ ys) ≡ map f xs ++ map f ys
-map_both f [] ys = refl
-map_both f (x ∷ xs) ys = ap (λ zs. f x ∷ zs) (map_both f xs ys)
-
 lack_by : {A B : Type 0} (f : A → B) (e : B → B → Bool) (c : A → A → Bool) → ((x y : A) → c x y ≡ e (f x) (f y)) → (whole parts : List A) → lack c whole parts ≡ lack e (map f whole) (map f parts)
 lack_by f e c same whole parts =
     list_any_same (λ p. not (is_member c whole p)) (λ p. not (is_member e (map f whole) (f p)))
@@ -61,3 +53,8 @@ lack_by f e c same whole parts =
 
 pub texts_lack : (whole parts : List (Bor (List ℕ))) → lack (eq_by_cmp (λ x y. slice_cmp nat_cmp x.now y.now)) whole parts ≡ name_nothing (map (λ x. x.now) whole) (map (λ x. x.now) parts)
 texts_lack whole parts = lack_by (λ x. x.now) bytes_eq (eq_by_cmp (λ x y. slice_cmp nat_cmp x.now y.now)) (λ x y. is_eq-slice_cmp x.now y.now) whole parts
+
+-- what is made of an item in two steps
+pub map_twice : {A B C : Type 0} (g : B → C) (f : A → B) → (xs : List A) → map (λ x. g (f x)) xs ≡ map g (map f xs)
+map_twice g f [] = refl
+map_twice g f (x ∷ xs) = ap (λ ys. g (f x) ∷ ys) (map_twice g f xs)

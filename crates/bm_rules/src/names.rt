@@ -1,6 +1,7 @@
 //! Objects by their names, and items that occur twice.
 ghost use Rattle.std.specs.Prelude.{◌≡◌, ◌<◌, ◌++◌, length, map, IfSome, nat_eq, IfOk, OnOk, option_copied};
-ghost use Rattle.std.specs.Ordering.{eq_by_cmp};
+ghost use Rattle.std.specs.Cmp.Lexicographic.{slice_cmp};
+ghost use Rattle.std.specs.Ordering.{eq_by_cmp, nat_cmp};
 ghost use Rattle.std.specs.Str.{bytes_eq};
 ghost use Rattle.std.specs.BTreeSet.{IsFromIterResult};
 ghost use Rattle.bm_rules.specs.Names.{named, place_of, lack, repeats, names_repeat, name_nothing};
@@ -8,6 +9,7 @@ ghost use Rattle.bm_rules.specs.Names.{named, place_of, lack, repeats, names_rep
 use list_types::NoMemory;
 use name_index::Labelled;
 use std::alloc::{AllocError, Global};
+use std::cmp::Ordering;
 use std::collections::BTreeSet;
 
 /// The first object of a name.
@@ -46,11 +48,12 @@ fn set_of<T: Ord + Copy>(alloc: Global, items: &[T]) -> Result<BTreeSet<T>, Allo
     items.iter().copied().collect(alloc)
 }
 
-fn repeats<T: Ord + Copy>(alloc: Global, items: &[T]) -> Result<bool, NoMemory>
-    ensures { IfOk result (λ answer. answer ≡ repeats (eq_by_cmp T.cmp) items.now) }
+/// Whether an item occurs twice. It takes no room: once they are sorted, each has to be below the next.
+fn repeats<T: Ord>(items: &mut [T]) -> bool
+    ensures { result ≡ repeats (eq_by_cmp T.cmp) items.old }
 {
-    let set = set_of(alloc, items)?;
-    Ok(set.len() < items.len())
+    items.sort_unstable();
+    !items.is_sorted_by(|earlier, later| earlier.cmp(later).is_lt())
 }
 
 fn lacks_some<T: Ord + Copy>(alloc: Global, whole: &[T], parts: &[T]) -> Result<bool, NoMemory>
@@ -72,20 +75,12 @@ pub(crate) fn name_nothing(alloc: Global, those: &[&str], these: &[&str]) -> Res
     Ok(lacks_some(alloc, those, these)?)
 }
 
-/// Whether a number occurs twice.
+/// Whether a number occurs twice; it sorts them.
 #[tactic(auto, using(crate::proofs::Sameness::numbers_repeat))]
-pub(crate) fn numbers_repeat(alloc: Global, numbers: &[u64]) -> Result<bool, NoMemory>
-    ensures { IfOk result (λ answer. answer ≡ repeats nat_eq numbers.now) }
+pub(crate) fn numbers_repeat(numbers: &mut [u64]) -> bool
+    ensures { result ≡ repeats nat_eq numbers.old }
 {
-    repeats(alloc, numbers)
-}
-
-/// Whether a text occurs twice.
-#[tactic(auto, using(crate::proofs::Sameness::texts_repeat))]
-pub(crate) fn texts_repeat(alloc: Global, texts: &[&str]) -> Result<bool, NoMemory>
-    ensures { IfOk result (λ answer. answer ≡ names_repeat (map (λ x. x.now) texts.now)) }
-{
-    repeats(alloc, texts)
+    repeats(numbers)
 }
 
 /// Adds the names of objects.
@@ -101,17 +96,40 @@ pub(crate) fn push_names<'a, T: Labelled>(
     Ok(())
 }
 
+fn by_name<T: Labelled>(earlier: &T, later: &T) -> Ordering
+    ensures { result ≡ slice_cmp nat_cmp (T.label earlier.now) (T.label later.now) }
+{
+    earlier.name().cmp(later.name())
+}
+
+/// Whether a name occurs twice among objects; it sorts them.
+fn named_twice<T: Labelled>(objects: &mut [&T]) -> bool
+    ensures { result ≡ names_repeat (map T.label (map (λ x. x.now) objects.old)) }
+{
+    objects.sort_unstable_by(|earlier, later| by_name(*earlier, *later));
+    !objects.is_sorted_by(|earlier, later| by_name(*earlier, *later).is_lt())
+}
+
+// Adds references to objects, which take half the room of their names.
+fn push_all<'a, T>(objects: &mut Vec<&'a T>, more: &'a [T]) -> Result<(), NoMemory>
+    ensures { OnOk result (map (λ x. x.now) objects.new.items ≡ map (λ x. x.now) objects.old.items ++ more.now) }
+{
+    for object in more {
+        objects.push(object)?;
+    }
+    Ok(())
+}
+
 /// Whether a name occurs twice among objects.
 pub(crate) fn names_repeat<T: Labelled>(alloc: Global, objects: &[T]) -> Result<bool, NoMemory>
     ensures { IfOk result (λ answer. answer ≡ names_repeat (map T.label objects.now)) }
 {
-    let mut names = Vec::with_capacity(alloc, objects.len())?;
-    push_names(&mut names, objects)?;
-    texts_repeat(alloc, names.as_slice())
+    let mut all = Vec::with_capacity(alloc, objects.len())?;
+    push_all(&mut all, objects)?;
+    Ok(named_twice(all.as_mut_slice()))
 }
 
 /// The same among two lists of objects.
-#[tactic(auto, using(crate::proofs::Sameness::map_both))]
 pub(crate) fn both_repeat<T: Labelled>(
     alloc: Global,
     first: &[T],
@@ -119,8 +137,8 @@ pub(crate) fn both_repeat<T: Labelled>(
 ) -> Result<bool, NoMemory>
     ensures { IfOk result (λ answer. answer ≡ names_repeat (map T.label (first.now ++ second.now))) }
 {
-    let mut names = Vec::with_capacity(alloc, first.len().saturating_add(second.len()))?;
-    push_names(&mut names, first)?;
-    push_names(&mut names, second)?;
-    texts_repeat(alloc, names.as_slice())
+    let mut all = Vec::with_capacity(alloc, first.len().saturating_add(second.len()))?;
+    push_all(&mut all, first)?;
+    push_all(&mut all, second)?;
+    Ok(named_twice(all.as_mut_slice()))
 }

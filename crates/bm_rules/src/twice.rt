@@ -40,8 +40,8 @@ fn ids_of(alloc: Global, actions: &[Action]) -> Result<Vec<u64>, NoMemory>
 fn ids_repeat(alloc: Global, actions: &[Action]) -> Result<bool, NoMemory>
     ensures { IfOk result (λ answer. answer ≡ repeats nat_eq (map (λ x. x.id) actions.now)) }
 {
-    let ids = ids_of(alloc, actions)?;
-    names::numbers_repeat(alloc, ids.as_slice())
+    let mut ids = ids_of(alloc, actions)?;
+    Ok(names::numbers_repeat(ids.as_mut_slice()))
 }
 
 fn packet_names_repeat(alloc: Global, raw: &RawProgram) -> Result<bool, NoMemory>

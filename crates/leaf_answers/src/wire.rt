@@ -102,7 +102,7 @@ fn read<T: Drop>(found: Result<T, Refusal<Unreadable>>) -> Result<Result<T, Unre
 fn messages(message: &Message<'_>, number: u32) -> Result<usize, Unreadable> {
     let mut left = message.messages(number);
     let mut count: usize = 0;
-    while left.next()?.is_some() {
+    'messages: while left.next()?.is_some() {
         count = count.saturating_add(1);
     }
     Ok(count)
