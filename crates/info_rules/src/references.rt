@@ -1,0 +1,298 @@
+//! The references between objects of a P4Info.
+ghost use Rattle.std.specs.Prelude.{◌≡◌, ◌==◌, ◌++◌, [], ◌∷◌, if◌then◌else◌, Some, IfSome, OnOk, map, nat_eq};
+ghost use Rattle.std.specs.List.{list_any};
+ghost use Rattle.wire_messages.specs.Answers.{ReadsInMemory};
+ghost use Rattle.wire_messages.specs.Message.{uint32s_at};
+ghost use Rattle.p4v1_read.specs.P4Infos.{p4info_of, table_of, action_profile_of, direct_counter_of, action_ref_of};
+ghost use Rattle.p4info_model.specs.Objects.{id_of};
+ghost use Rattle.p4info_model.specs.Rules.{breaks_i5, lacks_some, lacks_default, differ, same_pair, action_uses, profiles_of_tables, profile_tables, tables_of_profiles, table_counters, counters_of_tables, tables_of_counters};
+
+use crate::asking::{Question, any};
+use crate::gathering::{Gift, gather};
+use crate::kinds::{Id, Kind};
+use crate::parts::PartId;
+use list_types::{NoMemory, Refusal};
+use p4_types::p4info::{Action, ActionProfile, ActionRef, DirectCounter, Table};
+use p4info_model::repeats;
+use std::alloc::Global;
+use wire_messages::{Message, Unreadable};
+
+/// The actions to which a table refers.
+struct ActionUses;
+
+impl Gift<Table, u32> for ActionUses {
+    ghost meaning = { table_of };
+
+    ghost gives = { λ _ table. map (λ r. r.id) table.action_refs };
+
+    #[tactic(auto, using(crate::proofs::Gathered::flat_map_single), unfolding(p4v1_read::specs::P4Infos::table_of))]
+    fn put(
+        &self,
+        alloc: Global,
+        found: &mut Vec<u32>,
+        message: &Message<'_>,
+    ) -> Result<(), Refusal<Unreadable>> {
+        gather::<ActionRef, u32, PartId>(&PartId, alloc, found, message, 3)
+    }
+}
+
+#[tactic(auto, using(crate::proofs::Gathered::flat_map_single), unfolding(p4v1_read::specs::P4Infos::p4info_of))]
+fn lacks_action(alloc: Global, message: &Message<'_>) -> Result<bool, Refusal<Unreadable>>
+    ensures { IfSome (p4info_of message.now) (λ info. ReadsInMemory (λ x. x) result
+        (Some (lacks_some nat_eq (map (λ x. id_of x.preamble) info.actions) (action_uses info)))) }
+{
+    let mut ids = Vec::new(alloc);
+    gather::<Action, u32, Id>(&Id, alloc, &mut ids, message, 3)?;
+    let mut uses = Vec::new(alloc);
+    gather::<Table, u32, ActionUses>(&ActionUses, alloc, &mut uses, message, 2)?;
+    Ok(repeats::lacks_numbers(alloc, ids.as_slice(), uses.as_slice())?)
+}
+
+/// Whether a reference is to the action of this id.
+#[derive(Clone, Copy)]
+struct IsTo {
+    id: u32,
+}
+
+impl Question<ActionRef> for IsTo {
+    ghost meaning = { action_ref_of };
+
+    ghost answer = { λ to action. action.id == to.id };
+
+    #[tactic(auto, unfolding(p4v1_read::specs::P4Infos::action_ref_of))]
+    fn ask(&self, _: Global, message: &Message<'_>) -> Result<bool, Refusal<Unreadable>> {
+        Ok(message.uint32(1)? == self.id)
+    }
+}
+
+/// Whether a table has a const default action that is not among its actions.
+struct LacksDefault;
+
+impl Question<Table> for LacksDefault {
+    ghost meaning = { table_of };
+
+    ghost answer = { λ _ table. lacks_default table };
+
+    #[tactic(auto, unfolding(p4v1_read::specs::P4Infos::table_of))]
+    fn ask(&self, alloc: Global, message: &Message<'_>) -> Result<bool, Refusal<Unreadable>> {
+        let id = message.uint32(4)?;
+        let is_there = any::<ActionRef, IsTo>(&IsTo { id }, alloc, message, 3)?;
+        Ok(id != 0 && !is_there)
+    }
+}
+
+/// A table with the profile that it names.
+struct ProfileOfTable;
+
+impl Gift<Table, (u32, u32)> for ProfileOfTable {
+    ghost meaning = { table_of };
+
+    ghost gives = { λ _ t. if t.implementation_id == 0 then [] else (id_of t.preamble, t.implementation_id) ∷ [] };
+
+    #[tactic(auto, unfolding(p4v1_read::specs::P4Infos::table_of))]
+    fn put(
+        &self,
+        _: Global,
+        found: &mut Vec<(u32, u32)>,
+        message: &Message<'_>,
+    ) -> Result<(), Refusal<Unreadable>> {
+        let id = Table::id(message)?;
+        let profile = message.uint32(6)?;
+        if profile != 0 {
+            found.push((id, profile))?;
+        }
+        Ok(())
+    }
+}
+
+fn push_in_front(pairs: &mut Vec<(u32, u32)>, first: &[u32], second: u32) -> Result<(), NoMemory>
+    ensures { OnOk result (pairs.new.items ≡ pairs.old.items ++ map (λ x. (x, second)) first.now) }
+{
+    for number in first {
+        pairs.push((*number, second))?;
+    }
+    Ok(())
+}
+
+fn push_behind(pairs: &mut Vec<(u32, u32)>, first: u32, second: &[u32]) -> Result<(), NoMemory>
+    ensures { OnOk result (pairs.new.items ≡ pairs.old.items ++ map (λ x. (first, x)) second.now) }
+{
+    for number in second {
+        pairs.push((first, *number))?;
+    }
+    Ok(())
+}
+
+// Adds the numbers of a field in front of another number.
+fn put_in_front(
+    alloc: Global,
+    pairs: &mut Vec<(u32, u32)>,
+    message: &Message<'_>,
+    number: u32,
+    second: u32,
+) -> Result<(), Refusal<Unreadable>>
+    ensures { IfSome (uint32s_at number message.now) (λ all. ReadsInMemory (λ _. pairs.new.items) result (Some (pairs.old.items ++ map (λ x. (x, second)) all))) }
+{
+    let first = message.uint32s(alloc, number)?;
+    push_in_front(pairs, first.as_slice(), second)?;
+    Ok(())
+}
+
+// Adds the numbers of a field behind another number.
+fn put_behind(
+    alloc: Global,
+    pairs: &mut Vec<(u32, u32)>,
+    message: &Message<'_>,
+    number: u32,
+    first: u32,
+) -> Result<(), Refusal<Unreadable>>
+    ensures { IfSome (uint32s_at number message.now) (λ all. ReadsInMemory (λ _. pairs.new.items) result (Some (pairs.old.items ++ map (λ x. (first, x)) all))) }
+{
+    let second = message.uint32s(alloc, number)?;
+    push_behind(pairs, first, second.as_slice())?;
+    Ok(())
+}
+
+#[tactic(auto, unfolding(p4v1_read::specs::P4Infos::action_profile_of))]
+fn put_tables(
+    alloc: Global,
+    pairs: &mut Vec<(u32, u32)>,
+    message: &Message<'_>,
+    id: u32,
+) -> Result<(), Refusal<Unreadable>>
+    ensures { IfSome (action_profile_of message.now) (λ profile. ReadsInMemory (λ _. pairs.new.items) result
+        (Some (pairs.old.items ++ map (λ x. (x, id)) profile.table_ids))) }
+{
+    put_in_front(alloc, pairs, message, 2, id)
+}
+
+#[tactic(auto, unfolding(p4v1_read::specs::P4Infos::table_of))]
+fn put_counters(
+    alloc: Global,
+    pairs: &mut Vec<(u32, u32)>,
+    message: &Message<'_>,
+    id: u32,
+) -> Result<(), Refusal<Unreadable>>
+    ensures { IfSome (table_of message.now) (λ table. ReadsInMemory (λ _. pairs.new.items) result
+        (Some (pairs.old.items ++ map (λ x. (id, x)) table.direct_resource_ids))) }
+{
+    put_behind(alloc, pairs, message, 7, id)
+}
+
+/// A profile behind each table that it names.
+struct TablesOfProfile;
+
+impl Gift<ActionProfile, (u32, u32)> for TablesOfProfile {
+    ghost meaning = { action_profile_of };
+
+    ghost gives = { λ _ profile. profile_tables profile };
+
+    #[tactic(auto, unfolding(p4v1_read::specs::P4Infos::action_profile_of))]
+    fn put(
+        &self,
+        alloc: Global,
+        found: &mut Vec<(u32, u32)>,
+        message: &Message<'_>,
+    ) -> Result<(), Refusal<Unreadable>> {
+        let id = ActionProfile::id(message)?;
+        put_tables(alloc, found, message, id)
+    }
+}
+
+/// A table with each direct counter that it names.
+struct CountersOfTable;
+
+impl Gift<Table, (u32, u32)> for CountersOfTable {
+    ghost meaning = { table_of };
+
+    ghost gives = { λ _ table. table_counters table };
+
+    #[tactic(auto, unfolding(p4v1_read::specs::P4Infos::table_of))]
+    fn put(
+        &self,
+        alloc: Global,
+        found: &mut Vec<(u32, u32)>,
+        message: &Message<'_>,
+    ) -> Result<(), Refusal<Unreadable>> {
+        let id = Table::id(message)?;
+        put_counters(alloc, found, message, id)
+    }
+}
+
+/// A direct counter behind the table that it names.
+struct TableOfCounter;
+
+impl Gift<DirectCounter, (u32, u32)> for TableOfCounter {
+    ghost meaning = { direct_counter_of };
+
+    ghost gives = { λ _ counter. (counter.direct_table_id, id_of counter.preamble) ∷ [] };
+
+    #[tactic(auto, unfolding(p4v1_read::specs::P4Infos::direct_counter_of))]
+    fn put(
+        &self,
+        _: Global,
+        found: &mut Vec<(u32, u32)>,
+        message: &Message<'_>,
+    ) -> Result<(), Refusal<Unreadable>> {
+        let table = message.uint32(3)?;
+        let id = DirectCounter::id(message)?;
+        found.push((table, id))?;
+        Ok(())
+    }
+}
+
+#[tactic(auto, unfolding(p4v1_read::specs::P4Infos::p4info_of))]
+fn profiles_differ(alloc: Global, message: &Message<'_>) -> Result<bool, Refusal<Unreadable>>
+    ensures { IfSome (p4info_of message.now) (λ info. ReadsInMemory (λ x. x) result
+        (Some (differ same_pair (profiles_of_tables info) (tables_of_profiles info)))) }
+{
+    let mut named = Vec::new(alloc);
+    gather::<Table, (u32, u32), ProfileOfTable>(&ProfileOfTable, alloc, &mut named, message, 2)?;
+    let mut naming = Vec::new(alloc);
+    gather::<ActionProfile, (u32, u32), TablesOfProfile>(
+        &TablesOfProfile,
+        alloc,
+        &mut naming,
+        message,
+        4,
+    )?;
+    Ok(repeats::pairs_differ(alloc, named.as_slice(), naming.as_slice())?)
+}
+
+#[tactic(auto, using(crate::proofs::Gathered::flat_map_single), unfolding(p4v1_read::specs::P4Infos::p4info_of))]
+fn counters_differ(alloc: Global, message: &Message<'_>) -> Result<bool, Refusal<Unreadable>>
+    ensures { IfSome (p4info_of message.now) (λ info. ReadsInMemory (λ x. x) result
+        (Some (differ same_pair (counters_of_tables info) (tables_of_counters info)))) }
+{
+    let mut named = Vec::new(alloc);
+    gather::<Table, (u32, u32), CountersOfTable>(&CountersOfTable, alloc, &mut named, message, 2)?;
+    let mut naming = Vec::new(alloc);
+    gather::<DirectCounter, (u32, u32), TableOfCounter>(
+        &TableOfCounter,
+        alloc,
+        &mut naming,
+        message,
+        6,
+    )?;
+    Ok(repeats::pairs_differ(alloc, named.as_slice(), naming.as_slice())?)
+}
+
+#[tactic(auto, unfolding(p4v1_read::specs::P4Infos::p4info_of))]
+fn some_lacks_default(alloc: Global, message: &Message<'_>) -> Result<bool, Refusal<Unreadable>>
+    ensures { IfSome (p4info_of message.now) (λ info. ReadsInMemory (λ x. x) result (Some (list_any lacks_default info.tables))) }
+{
+    any::<Table, LacksDefault>(&LacksDefault, alloc, message, 2)
+}
+
+/// I5: a reference names nothing of its kind, a const default action is not among the table's actions, or a table and its
+/// profile or direct counter do not name each other.
+pub(crate) fn breaks_i5(alloc: Global, message: &Message<'_>) -> Result<bool, Refusal<Unreadable>>
+    ensures { IfSome (p4info_of message.now) (λ info. ReadsInMemory (λ x. x) result (Some (breaks_i5 info))) }
+{
+    Ok(
+        lacks_action(alloc, message)?
+            || some_lacks_default(alloc, message)?
+            || profiles_differ(alloc, message)?
+            || counters_differ(alloc, message)?,
+    )
+}
