@@ -12,7 +12,8 @@ members with different names into `next_tables`, as many as 4 MiB of JSON has, w
 each list the item for which most memory was held; at most 12 times the bytes are meant, beside what the program takes by itself,
 which is printed first.
 
-Last it does the same with a P4Info of 1 MiB of empty objects of one kind, and of one table of empty parts.
+Last it does the same with P4Infos of some 1 MiB: objects and parts of two bytes, numbers of one byte, objects with an id or with an id and a name,
+and annotations without a character.
 
 Of each time the least of three runs counts. Times and memory are of this machine.
 """
@@ -118,16 +119,40 @@ def short(program):
 
 
 OBJECTS = {"tables": 2, "actions": 3, "action profiles": 4, "counters": 5, "direct counters": 6, "controller headers": 9, "digests": 12}
-PARTS = {"match fields": 2, "references to actions": 3}
+HIGH = {2: 2, 3: 1, 4: 17, 9: 4}
+PARTS = {"match fields": (2, 2), "references to actions": (2, 3), "parameters": (3, 2), "metadata": (9, 2)}
+NUMBERS = {"ids of counters": (2, 7), "ids of tables": (4, 2)}
 
 
-def empty_objects():
-    """What a P4Info has over and over, each in two bytes, and the P4Info."""
-    half = LONGEST // 8
+def varint(number):
+    """The bytes of a number."""
+    digits = b""
+    while number >= 128:
+        digits, number = digits + bytes([number % 128 + 128]), number // 128
+    return digits + bytes([number])
+
+
+def preamble(kind, number, more=b""):
+    """A preamble with an id of this kind and a name."""
+    return long_field(1, b"\x08" + varint(HIGH[kind] * 2**24 + number) + long_field(2, letters(number)) + more)
+
+
+def infos():
+    """What a P4Info has over and over, and the P4Info: objects and parts of two bytes, numbers of one byte, objects that have an id, or an id
+    and a name, and annotations without a character in a P4Info that breaks no rule."""
+    size = LONGEST // 4
     for name, kind in OBJECTS.items():
-        yield name, long_field(kind, b"") * half
-    for name, kind in PARTS.items():
-        yield name, long_field(2, long_field(kind, b"") * half)
+        yield "empty " + name, long_field(kind, b"") * (size // 2)
+    for name, (kind, part) in PARTS.items():
+        yield "empty " + name, long_field(kind, preamble(kind, 1) + long_field(part, b"") * (size // 2))
+    for name, (kind, number) in NUMBERS.items():
+        yield name, long_field(kind, preamble(kind, 1) + long_field(number, b"\x01" * size))
+    for name, kind in (("tables", 2), ("actions", 3)):
+        ids = (long_field(kind, long_field(1, b"\x08" + varint(i + 1))) for i in range(size // 8))
+        yield name + " with an id", b"".join(ids)
+        named = (long_field(kind, preamble(kind, i + 1)) for i in range(size // 16))
+        yield name + " with an id and a name", b"".join(named)
+    yield "annotations", long_field(3, preamble(3, 1, long_field(4, b"") * (size // 2)))
 
 
 def judged(program, config):
@@ -164,12 +189,12 @@ def main():
         most[name] = max(most.get(name, (0, "")), ((peak - own) * 1024 / len(config), item.decode()))
     for name, (times, item) in most.items():
         print("short items in %s, 4 MiB: peak at most %.1f times the bytes beside that, for %s (at most 12 are meant)" % (name, times, item), flush=True)
-    for name, info in empty_objects():
+    for name, info in infos():
         config = long_field(1, info) + long_field(2, plain)
         _, status, peak = run(program, config, ("check",))
-        if status not in (0, 3, 8):
+        if status not in (0, 8):
             sys.exit("%s: status %d" % (program, status))
-        print("empty %s in a P4Info, 1 MiB: peak %.1f times the bytes beside that" % (name, (peak - own) * 1024 / len(config)), flush=True)
+        print("%s in a P4Info, %.1f MiB: peak %.1f times the bytes beside that" % (name, len(config) / 2**20, (peak - own) * 1024 / len(config)), flush=True)
 
 
 if __name__ == "__main__":
