@@ -17,7 +17,7 @@ use Rattle.tape_form.specs.declared.fault.TapeFault.TheVariants as faults
 use Rattle.p4switch_run.specs.declared.status.Status.{Status}
 use Rattle.p4switch_run.specs.declared.status.Status.TheVariants as statuses
 use Rattle.p4_types.specs.declared.events.Start.{Start}
-use Rattle.p4switch_run.specs.declared.words.Mode.{Mode}
+use Rattle.command_words.specs.declared.words.Mode.{Mode}
 use Rattle.p4switch_run.specs.Check.{Checks}
 use Rattle.p4switch_run.specs.Command.{status_number}
 use Rattle.p4switch_run.specs.Replay.{Streams, Answers}

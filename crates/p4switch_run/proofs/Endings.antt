@@ -12,11 +12,12 @@ use Rattle.p4switch_run.specs.declared.status.Status.{Status}
 use Rattle.p4switch_run.specs.declared.status.Status.TheVariants as statuses
 use Rattle.p4switch_run.specs.declared.words.Job.{Job}
 use Rattle.p4switch_run.specs.declared.words.Job.TheVariants as jobs
-use Rattle.p4switch_run.specs.declared.words.Mode.{Mode}
+use Rattle.command_words.specs.declared.words.Mode.{Mode}
 use Rattle.p4switch_run.specs.Command.{IsReplay, IsCheck, IsCommand, IsServe, status_number}
 use Rattle.p4switch_run.specs.Replay.{Streams, Answers}
 use Rattle.p4switch_run.specs.Run.{EndsBy, IsServeStatus, IsUnusedBy, NetBy, Reports, Serves, Breaks, Approves, BreaksLine, IsUnread, Misreads, Stops, Rejects, Lines, IsTold, NamesPlace, HoldsTape, HoldsBytes}
-use Rattle.p4switch_run.specs.Words.{command_of, built}
+use Rattle.command_words.specs.Words.{command_of}
+use Rattle.p4switch_run.specs.Words.{built}
 use Rattle.p4switch_run.proofs.Completeness as completeness
 use Rattle.p4switch_run.specs.Check.{Checks}
 use Rattle.serve_run.specs.declared.opening.Serving.{Serving}
@@ -61,7 +62,7 @@ none_of : (o : Option (List ℕ)) → Consumes o o []
 none_of None = tt
 none_of (Some xs) = refl
 
-none_taken : (o : Option (List ℕ)) (faults : ℕ) → IsUnfinished o o faults faults
+pub none_taken : (o : Option (List ℕ)) (faults : ℕ) → IsUnfinished o o faults faults
 none_taken o faults = record { taken = []; consumed = none_of o; within = omega arith; sound = refl }
 
 pub no_memory : (o : Option Job) (status : Status) (old new : Streams) → EndsBy o status old new → status_number status ≡ 3 → IsUnfinished old.left new.left old.read_faults new.read_faults

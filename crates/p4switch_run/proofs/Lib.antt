@@ -1,8 +1,7 @@
 pub mod Completeness
 pub mod Endings
-pub mod Numbers
-pub mod Options
 pub mod ReplayLemmas
 pub mod TellLemmas
+pub mod Unbegun
 pub mod Unfinished
 pub mod Serving

@@ -18,7 +18,7 @@ use Rattle.tape_form.specs.declared.fault.TapeFault.{TapeFault}
 use Rattle.tape_form.specs.declared.fault.TapeFault.TheVariants as faults
 use Rattle.tape_form.proofs.Judging.{bad_at, too_long, fault_rose, unfinished}
 use Rattle.sw_edge.specs.Told.{Keeps}
-use Rattle.p4switch_run.specs.declared.words.Mode.{Mode}
+use Rattle.command_words.specs.declared.words.Mode.{Mode}
 use Rattle.p4switch_run.specs.Command.{fault_status}
 use Rattle.p4switch_run.specs.Replay.{Streams, ReadWith, Answers}
 

@@ -10,8 +10,9 @@ use Rattle.p4switch_run.specs.declared.status.Status.{Status}
 use Rattle.p4switch_run.specs.declared.status.Status.TheVariants as statuses
 use Rattle.p4switch_run.specs.declared.words.Job.{Job}
 use Rattle.p4switch_run.specs.declared.words.Job.TheVariants as jobs
-use Rattle.p4switch_run.specs.declared.words.Mode.{Mode}
-use Rattle.p4switch_run.specs.Words.{command_of, built}
+use Rattle.command_words.specs.declared.words.Mode.{Mode}
+use Rattle.command_words.specs.Words.{command_of}
+use Rattle.p4switch_run.specs.Words.{built}
 use Rattle.serve_run.specs.declared.ending.ServeEnd.{ServeEnd}
 use Rattle.serve_run.specs.declared.ending.ServeEnd.TheVariants as ends
 use Rattle.serve_run.specs.declared.opening.Serving.{Serving}

@@ -12,8 +12,8 @@ use Rattle.tape_form.specs.TapeRead.{IsReadFrom, IsWholeTape, IsUnfinished, Hide
 use Rattle.tape_form.specs.declared.fault.TapeFault.TheVariants as faults
 use Rattle.p4switch_run.specs.declared.status.Status.{Status}
 use Rattle.p4switch_run.specs.declared.status.Status.TheVariants as statuses
-use Rattle.p4switch_run.specs.declared.words.Mode.{Mode}
-use Rattle.p4switch_run.specs.declared.words.Mode.TheVariants as modes
+use Rattle.command_words.specs.declared.words.Mode.{Mode}
+use Rattle.command_words.specs.declared.words.Mode.TheVariants as modes
 
 -- the source and the sink: what is left to read, what was written, how often each has failed, and how often the source was read to its end
 pub record Streams : Type 0 where

@@ -13,10 +13,11 @@ use Rattle.p4switch_run.specs.declared.status.Status.{Status}
 use Rattle.p4switch_run.specs.declared.status.Status.TheVariants as statuses
 use Rattle.p4switch_run.specs.declared.words.Job.{Job}
 use Rattle.p4switch_run.specs.declared.words.Job.TheVariants as jobs
-use Rattle.p4switch_run.specs.declared.words.Mode.{Mode}
+use Rattle.command_words.specs.declared.words.Mode.{Mode}
 use Rattle.p4switch_run.specs.Check.{Checks, IsJudged, IsJudgedShort, IsRefused, IsTakenUp, ended_status}
 use Rattle.p4switch_run.specs.Command.{IsReplay, IsCheck, IsServe, status_number, fault_status, status_line}
-use Rattle.p4switch_run.specs.Words.{command_of, built}
+use Rattle.command_words.specs.Words.{command_of}
+use Rattle.p4switch_run.specs.Words.{built}
 use Rattle.p4switch_run.specs.Replay.{Streams, Answers, IsWritten, IsCutShort, ReadWith}
 use Rattle.p4switch_run.specs.Tell.{IsSaid}
 

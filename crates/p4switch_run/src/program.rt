@@ -5,7 +5,7 @@ ghost use Rattle.sw_edge.specs.Told.{Keeps};
 ghost use Rattle.tape_form.specs.TapeRead.{IsTooLong, IsUnfinished, HidesNothing};
 ghost use Rattle.p4switch_run.specs.Command.{IsCommand, IsReplay, IsCheck, IsServe};
 ghost use Rattle.p4_types.specs.declared.events.Start.{Start};
-ghost use Rattle.p4switch_run.specs.declared.words.Mode.{Mode};
+ghost use Rattle.command_words.specs.declared.words.Mode.{Mode};
 ghost use Rattle.p4switch_run.specs.Replay.{streams};
 ghost use Rattle.p4switch_run.specs.Run.{Ends, NetEnds, IsUnused, Reports, Breaks, Approves, Serves, BreaksLine, IsUnread, Misreads, Stops, Rejects, HoldsTape, HoldsBytes, NamesPlace, SaysStatus, lines};
 
@@ -13,7 +13,8 @@ use crate::check::check;
 use crate::replay::replay;
 use crate::status::Status;
 use crate::tell::tell;
-use crate::words::{Job, built, command_of};
+use crate::words::{Job, job_of};
+use list_types::NoMemory;
 use serve_run::serve;
 use std::alloc::Global;
 use std::sync::Wait;
@@ -39,11 +40,14 @@ fn status_of<T: Threads + Wait + Sync, S: Source, O: Sink, N: Net + Drop, K: Clo
     ensures net { IsUnused (map (λ word. word.now) words.now) net.old net.new }
     ensures clock { IsUnused (map (λ word. word.now) words.now) clock.old clock.new }
 {
-    match built(command_of(words)) {
-        Some(Job::Replay(mode, start)) => replay(rt, alloc, mode, start, tape, out),
-        Some(Job::Check) => check(alloc, tape, out),
-        Some(Job::Serve(serving)) => Status::of_end(serve(rt, alloc, serving, net, clock)),
-        None => Status::WordsRefused,
+    match job_of(alloc, words) {
+        Ok(job) => match job {
+            Some(Job::Replay(mode, start)) => replay(rt, alloc, mode, start, tape, out),
+            Some(Job::Check) => check(alloc, tape, out),
+            Some(Job::Serve(serving)) => Status::of_end(serve(rt, alloc, serving, net, clock)),
+            None => Status::WordsRefused,
+        },
+        Err(NoMemory) => Status::NoMemory,
     }
 }
 

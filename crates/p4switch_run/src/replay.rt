@@ -5,7 +5,7 @@ ghost use Rattle.byte_lanes.specs.Filling.{IsItemLockstepReport, IsItemFreeRepor
 ghost use Rattle.p4switch_run.specs.Replay.{Answers, IsReportIn, streams};
 
 use crate::status::Status;
-use crate::words::Mode;
+use command_words::words::Mode;
 use list_types::{ByteList, NoMemory};
 use lockstep_run::play;
 use p4_types::events::Start;

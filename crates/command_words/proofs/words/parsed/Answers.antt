@@ -2,7 +2,7 @@ use Rattle.std.proofs.Common.{ℕ, Option, Result, Ok, Err, ap}
 use Rattle.std.proofs.lemmas.Fmt.{parse-decimal}
 use Rattle.std.specs.Result.{result_ok}
 use Rattle.std.specs.declared.num.ParseIntError.{ParseIntError}
-use Rattle.p4switch_run.proofs.words.parsed.Goals as goal
+use Rattle.command_words.proofs.words.parsed.Goals as goal
 
 abbrev of_read : Result ℕ ParseIntError → Option ℕ
 of_read read = result_ok read

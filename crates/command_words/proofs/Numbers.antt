@@ -6,7 +6,7 @@ use Rattle.std.specs.Str.Parse.{digits_value}
 use Rattle.std.proofs.lemmas.Bool.Decides.{nat_tests}
 use Rattle.std.proofs.lemmas.Fmt.{decimal_is_IsNumeral}
 use Rattle.std.proofs.lemmas.Slice.Eq.{bytes_eq-Decides}
-use Rattle.p4switch_run.specs.Words.{number_of}
+use Rattle.command_words.specs.Words.{number_of}
 
 abbrev number_by : List ℕ → ℕ → Option ℕ
 number_by word n = cond (nat_lt n (10 ^ 19) && bytes_eq word (decimal n)) (Some n) None

@@ -1,6 +1,6 @@
 use Rattle.std.proofs.Common.{◌-◌, length, take, drop, refl, sym, ◌∙◌}
-use Rattle.p4switch_run.proofs.Options.{first_flag, first_number, none_of}
-use Rattle.p4switch_run.proofs.words.+settings_from.Goals as goal
+use Rattle.command_words.proofs.Options.{first_flag, first_number, none_of}
+use Rattle.command_words.proofs.words.+settings_from.Goals as goal
 
 pub returns-in-Some : goal.returns-in-Some
 returns-in-Some t c =

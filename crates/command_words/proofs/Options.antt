@@ -2,10 +2,10 @@
 use Rattle.std.proofs.Common.{◌≡◌, ℕ, ◌-◌, ◌≤◌, List, [], ◌∷◌, length, take, drop, get_or, map, Option, Some, None, refl, sym, ap, ◌∙◌, arith, Bor}
 use Rattle.std.specs.Option.{option_and_then}
 use Rattle.std.proofs.Math.Seq.{take-length}
-use Rattle.p4switch_run.specs.declared.words.Given.{Given}
-use Rattle.p4switch_run.specs.declared.words.Settings.{Settings}
-use Rattle.p4switch_run.specs.declared.words.Verb.{Verb}
-use Rattle.p4switch_run.specs.Words.{flag_named, number_named, with_option, settings_from}
+use Rattle.command_words.specs.declared.words.Given.{Given}
+use Rattle.command_words.specs.declared.words.Settings.{Settings}
+use Rattle.command_words.specs.declared.words.Verb.{Verb}
+use Rattle.command_words.specs.Words.{flag_named, number_named, with_option, settings_from}
 
 abbrev Texts : Type 0
 Texts = List (Bor (List ℕ))

@@ -1,0 +1,10 @@
+pub mod Chosen
+pub mod Commands
+pub mod Matched
+pub mod Numbers
+pub mod Options
+pub mod Rows
+pub mod Shows
+pub mod Singles
+pub mod Values
+pub mod Walks
