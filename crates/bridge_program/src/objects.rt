@@ -8,6 +8,7 @@ use p4_types::p4info;
 use p4_types::p4info::{Action, ActionRef, MatchField, Param, Preamble, Table};
 use p4info_model::P4Info;
 use std::alloc::Global;
+use text_lists::TextList;
 
 pub(crate) const TABLE: u32 = 0x0200_0001;
 
@@ -46,7 +47,7 @@ fn preamble(alloc: Global, id: u32, name: &str) -> Result<Option<Preamble>, NoMe
         id,
         name,
         alias: text(alloc, "")?,
-        annotations: List::new(alloc),
+        annotations: TextList::new(alloc),
     }))
 }
 

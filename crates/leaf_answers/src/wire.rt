@@ -108,12 +108,6 @@ fn messages(message: &Message<'_>, number: u32) -> Result<usize, Unreadable> {
     Ok(count)
 }
 
-fn count<T: Drop>(
-    found: Result<Vec<T>, Refusal<Unreadable>>,
-) -> Result<Result<usize, Unreadable>, NoAnswer> {
-    read(found.map(|list| list.len()))
-}
-
 /// Of a message: field 1 as bytes, 2 as a text, 3 as a message, how many messages 4 and texts 5 has, the numbers of 6,
 /// the choice of 7 and 8, whether 9 is given, and whether no field is above 9.
 pub fn parts(alloc: Global, asked: &[&str], told: &mut String) -> Result<(), NoAnswer> {
@@ -129,7 +123,7 @@ pub fn parts(alloc: Global, asked: &[&str], told: &mut String) -> Result<(), NoA
     tell(told, message.text(2));
     tell(told, message.message(3));
     tell(told, messages(&message, 4));
-    tell(told, count(message.texts(alloc, 5))?);
+    tell(told, read(message.texts(alloc, 5).map(|list| list.len()))?);
     tell(told, read(message.uint32s(alloc, 6))?);
     tell(told, message.choice(&[7, 8]));
     tell(told, message.is_given(9));

@@ -1,5 +1,5 @@
 -- The first of what passes a test, its place, and the first value of a name.
-use Rattle.std.proofs.Common.{◌≡◌, ℕ, ◌+◌, ◌<◌, ◌≤◌, ◌∙◌, refl, sym, subst, is_some, Bool, true, false, cond, nat_lt, nat_eq, Bor, List, [], ◌∷◌, ◌++◌, length, take, get_or, IfSome, Option, Some, None, if◌then◌else◌, arith, length-append}
+use Rattle.std.proofs.Common.{◌≡◌, ℕ, ◌+◌, ◌<◌, ◌≤◌, ◌∙◌, refl, sym, subst, is_some, Bool, true, false, cond, nat_lt, nat_eq, Bor, List, [], ◌∷◌, ◌++◌, length, take, get_or, Option, Some, None, if◌then◌else◌, arith, length-append}
 use Rattle.std.specs.BTreeMap.{BTreeMap, UpdatesBy}
 use Rattle.std.specs.Cmp.Lexicographic.{slice_cmp}
 use Rattle.std.specs.List.{find, position, position_or_len, slice_get}
@@ -33,14 +33,6 @@ find_place p xs = by_place xs (position_or_len p xs) (find p xs) (find_at p xs) 
 -- what stands at the place of the first that passes a test
 pub at_place : {X : Type 0} (p : X → Bool) (xs : List X) (r : Option ℕ) → r ≡ position p xs → MatchOption r (find p xs ≡ None) (λ i. slice_get xs i ≡ find p xs)
 at_place p xs r e = subst (λ q. MatchOption q (find p xs ≡ None) (λ i. slice_get xs i ≡ find p xs)) (sym e) (find_place p xs)
-
-inside_by : (n l : ℕ) (b : Bool) → b ≡ nat_lt n l → IfSome (cond b (Some n) None) (λ i. i < l)
-inside_by n l true e = grind (arith, nat_tests)
-inside_by n l false e = tt
-
--- its place is inside the list
-pub position_inside : {X : Type 0} (p : X → Bool) (xs : List X) (r : Option ℕ) → r ≡ position p xs → IfSome r (λ i. i < length xs)
-position_inside p xs r e = subst (λ q. IfSome q (λ i. i < length xs)) (sym e) (inside_by (position_or_len p xs) (length xs) (nat_lt (position_or_len p xs) (length xs)) refl)
 
 length_front : {X : Type 0} (xs : List X) (i : ℕ) → i < length xs → length (take i xs) ≡ i
 length_front xs i l = grind (arith, common_steps)

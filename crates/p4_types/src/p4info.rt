@@ -1,6 +1,7 @@
 //! The messages of a P4Info (p4.config.v1), with the names of their fields. Enumerations keep their
 //! numbers, since a message may bear any number.
 use list_types::{ByteList, List, Text};
+use text_lists::TextList;
 
 /// What all objects of a program have.
 #[derive(Drop)]
@@ -8,7 +9,7 @@ pub struct Preamble {
     pub id: u32,
     pub name: Text,
     pub alias: Text,
-    pub annotations: List<Text>,
+    pub annotations: TextList,
 }
 
 #[derive(Drop)]

@@ -10,6 +10,7 @@ use p4_types::info::{Info, MatchKind, Scope};
 use p4_types::p4info::{CounterSpec, P4Info, Preamble};
 use p4_types::{info, p4info};
 use std::alloc::Global;
+use text_lists::TextList;
 
 /// A message that stands for an object or a part of one.
 trait Resolve<T> {
@@ -42,7 +43,7 @@ fn preamble_of(alloc: Global, given: Option<Preamble>) -> Preamble
             id: 0,
             name: Text::from_string(String::new(alloc)),
             alias: Text::from_string(String::new(alloc)),
-            annotations: List::new(alloc),
+            annotations: TextList::new(alloc),
         },
     }
 }

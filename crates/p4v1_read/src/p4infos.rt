@@ -22,7 +22,7 @@ impl Readable for Preamble {
         let id = message.uint32(1)?;
         let name = reading::text(alloc, message, 2)?;
         let alias = reading::text(alloc, message, 3)?;
-        let annotations = reading::texts(alloc, message, 4)?;
+        let annotations = message.texts(alloc, 4)?;
         Ok(Preamble {
             id,
             name,

@@ -1,11 +1,11 @@
 //! What the readers of messages share.
-ghost use Rattle.std.specs.Prelude.{◌≡◌, Some, map};
+ghost use Rattle.std.specs.Prelude.{◌≡◌, Some};
 ghost use Rattle.std.specs.Prelude as spec;
 ghost use Rattle.p4v1_read.specs.MessageFields.{fields_of};
 ghost use Rattle.p4v1_read.specs.Nested.{read, one_at, all_at, inside_at, member_at, opaque_at};
 ghost use Rattle.wire_fields.specs.Fields.{WireField};
 ghost use Rattle.wire_messages.specs.Answers.{Reads, ReadsInMemory};
-ghost use Rattle.wire_messages.specs.Message.{each, bytes_at, text_at, texts_at, uint32s_at, message_at};
+ghost use Rattle.wire_messages.specs.Message.{each, bytes_at, text_at, uint32s_at, message_at};
 
 use list_types::{ByteList, List, Refusal, Text};
 use std::alloc::Global;
@@ -119,35 +119,6 @@ pub(crate) fn text(
     let mut text = String::new(alloc);
     text.push_str(message.text(number)?)?;
     Ok(Text::from_string(text))
-}
-
-fn text_from(alloc: Global, text: &str) -> Result<Text, Refusal<Unreadable>>
-    ensures { ReadsInMemory (λ text. text) result (Some text.now) }
-{
-    let mut copy = String::new(alloc);
-    copy.push_str(text)?;
-    Ok(Text::from_string(copy))
-}
-
-fn texts_from(alloc: Global, texts: &[&str]) -> Result<List<Text>, Refusal<Unreadable>>
-    ensures { ReadsInMemory (λ list. list) result (Some (map (λ x. x.now) texts.now)) }
-{
-    let mut list = List::new(alloc);
-    for text in texts {
-        list.push(text_from(alloc, text)?)?;
-    }
-    Ok(list)
-}
-
-pub(crate) fn texts(
-    alloc: Global,
-    message: &Message<'_>,
-    number: u32,
-) -> Result<List<Text>, Refusal<Unreadable>>
-    ensures { ReadsInMemory (λ list. list) result (texts_at number message.now) }
-{
-    let texts = message.texts(alloc, number)?;
-    texts_from(alloc, texts.as_slice())
 }
 
 pub(crate) fn uint32s(

@@ -25,7 +25,7 @@ impl Writable for Preamble {
         write::uint32(writer, 1, self.id)?;
         write::text(writer, 2, self.name.as_str())?;
         write::text(writer, 3, self.alias.as_str())?;
-        write::texts(writer, 4, self.annotations.as_slice())?;
+        write::texts(writer, 4, &self.annotations)?;
         Ok(())
     }
 }

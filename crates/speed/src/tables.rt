@@ -10,6 +10,7 @@ use std::alloc::Global;
 use std::io::{self, Error, ErrorKind};
 use std::time::Clock;
 use table_store::TableStore;
+use text_lists::TextList;
 
 // The table of IPv4 routes of a router, its action, and another table.
 const ROUTES: u32 = 0x0200_0002;
@@ -44,7 +45,7 @@ fn table(alloc: Global, id: u32) -> Table
             id,
             name: text(alloc),
             alias: text(alloc),
-            annotations: List::new(alloc),
+            annotations: TextList::new(alloc),
         },
         match_fields: List::new(alloc),
         action_refs: List::new(alloc),

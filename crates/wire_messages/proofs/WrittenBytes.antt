@@ -3,7 +3,7 @@ use Rattle.std.proofs.Common.{◌≡◌, ℕ, ◌+◌, ◌<◌, ◌≤◌, Bool,
 use Rattle.std.specs.Str.{IsUtf8}
 use Rattle.std.proofs.lemmas.List.Elements.{All-nil, All-push}
 use Rattle.std.proofs.lemmas.Bool.{ne_eqb}
-use Rattle.std.proofs.lemmas.List.{append-nil, map-append, take_more, take_all}
+use Rattle.std.proofs.lemmas.List.{append-nil, map-append, take-append-le, take_more, take_all}
 use Rattle.wire_fields.specs.Fields.{Payload, Varint, Bytes, WireField, tag}
 use Rattle.canon_bytes.specs.Base128.{base_128}
 use Rattle.wire_fields.specs.Spelling.{field_bytes, number_field, bytes_field, spelling}
@@ -49,20 +49,37 @@ pub record TextsSoFar (number : ℕ) (texts : List (List ℕ)) (start now : List
   pub so_far : now ≡ start ++ row_bytes number (Texts texts)
   pub fits : All IsUtf8 texts
 
-pub no_texts : (number : ℕ) (bytes : List ℕ) → TextsSoFar number [] bytes bytes
-no_texts number bytes = record { so_far = sym (ap (λ x. bytes ++ x) (left_out number (Texts []) refl) ∙ append-nil bytes); fits = All-nil IsUtf8 }
+-- the texts so far, and those that are left
+pub record TextsWritten (number : ℕ) (texts left : List (List ℕ)) (start now : List ℕ) : Type 0 where
+  pub done : List (List ℕ)
+  pub whole : texts ≡ done ++ left
+  pub so : TextsSoFar number done start now
 
-pub next_text : (number i : ℕ) (texts : List (List ℕ)) (text bytes start before now : List ℕ) → i < length texts → text ≡ get_or texts i text → TextsSoFar number (take i texts) start before → now ≡ before ++ field_bytes (bytes_field number bytes) → bytes ≡ text → IsUtf8 text
-    → TextsSoFar number (take (i + 1) texts) start now
-next_text number i texts text bytes start before now h is so e same utf8 =
-    let taken : take (i + 1) texts ≡ take i texts ++ text ∷ [] = take_more texts i text h ∙ ap (λ x. take i texts ++ x ∷ []) (sym is) in
-    rw taken (record {
-      so_far = e ∙ ap (λ x. before ++ field_bytes (bytes_field number x)) same ∙ ap (λ x. x ++ field_bytes (bytes_field number text)) so.so_far ∙ append_assoc start (row_bytes number (Texts (take i texts))) (field_bytes (bytes_field number text)) ∙ ap (λ x. start ++ x) (sym (texts_more number (take i texts) text));
-      fits = All-push IsUtf8 (take i texts) text so.fits utf8;
-    })
+pub no_texts : (number : ℕ) (texts left : List (List ℕ)) (bytes : List ℕ) → left ≡ texts → TextsWritten number texts left bytes bytes
+no_texts number texts left bytes e = record {
+  done = [];
+  whole = sym e;
+  so = record { so_far = sym (ap (λ x. bytes ++ x) (left_out number (Texts []) refl) ∙ append-nil bytes); fits = All-nil IsUtf8 };
+}
 
-pub all_texts : (number i : ℕ) (texts : List (List ℕ)) (start now : List ℕ) → length texts ≤ i → TextsSoFar number (take i texts) start now → TextsSoFar number texts start now
-all_texts number i texts start now h so = subst (λ (x : List (List ℕ)). TextsSoFar number x start now) (take_all i texts h) so
+pub next_text : (number : ℕ) (texts left rest : List (List ℕ)) (text start before now : List ℕ) → left ≡ text ∷ rest → IsUtf8 text → now ≡ before ++ field_bytes (bytes_field number text) → TextsWritten number texts left start before
+    → TextsWritten number texts rest start now
+next_text number texts left rest text start before now is utf8 e written = record {
+  done = written.done ++ text ∷ [];
+  whole = written.whole ∙ ap (λ x. written.done ++ x) is ∙ sym (append_assoc written.done (text ∷ []) rest);
+  so = record {
+    so_far = e ∙ ap (λ x. x ++ field_bytes (bytes_field number text)) written.so.so_far ∙ append_assoc start (row_bytes number (Texts written.done)) (field_bytes (bytes_field number text)) ∙ ap (λ x. start ++ x) (sym (texts_more number written.done text));
+    fits = All-push IsUtf8 written.done text written.so.fits utf8;
+  };
+}
+
+pub all_texts : (number : ℕ) (texts left : List (List ℕ)) (start now : List ℕ) → left ≡ [] → TextsWritten number texts left start now → TextsSoFar number texts start now
+all_texts number texts left start now e written = subst (λ (x : List (List ℕ)). TextsSoFar number x start now) (sym (written.whole ∙ ap (λ x. written.done ++ x) e ∙ append-nil written.done)) written.so
+
+-- where it stops, some were written
+pub stopped_at : (number : ℕ) (texts left : List (List ℕ)) (start before now : List ℕ) → now ≡ before → TextsWritten number texts left start before → (count : ℕ) × (now ≡ start ++ row_bytes number (Texts (take count texts)))
+stopped_at number texts left start before now e written =
+    (length written.done, e ∙ written.so.so_far ∙ ap (λ x. start ++ row_bytes number (Texts x)) (sym (ap (take (length written.done)) written.whole ∙ take-append-le (length written.done) written.done left (omega arith) ∙ take_all (length written.done) written.done (omega arith))))
 
 -- ---- messages
 

@@ -1,5 +1,5 @@
 //! A message by the numbers of its fields.
-ghost use Rattle.std.specs.Prelude.{◌≡◌, List, map, true, Err, IfOk, OnErr};
+ghost use Rattle.std.specs.Prelude.{◌≡◌, List, true, Err, IfOk, OnErr};
 ghost use Rattle.std.specs.Option.{option_map};
 ghost use Rattle.wire_fields.specs.Fields.{WireField, Spells};
 ghost use Rattle.wire_messages.specs.Answers.{Reads, ReadsInMemory, first_is_read, first_number_is_read};
@@ -13,6 +13,7 @@ use crate::{steps, values};
 use list_types::Refusal;
 use std::alloc::Global;
 use std::marker::Model;
+use text_lists::TextList;
 use wire_fields::Fields;
 
 /// The fields of a message, to be read by their numbers. They are walked over in its bytes for each number that is asked
@@ -157,12 +158,12 @@ impl<'a> Message<'a> {
         Messages::new(self.fields(), number)
     }
 
-    /// Each `string` in a repeated field, in UTF-8.
-    pub fn texts(&self, alloc: Global, number: u32) -> Result<Vec<&'a str>, Refusal<Unreadable>>
-        ensures exact { ReadsInMemory (λ list. map (λ x. x.now) list.items) result (texts_at number self.now) }
+    /// Each `string` in a repeated field, in UTF-8, copied.
+    pub fn texts(&self, alloc: Global, number: u32) -> Result<TextList, Refusal<Unreadable>>
+        ensures exact { ReadsInMemory (λ list. list) result (texts_at number self.now) }
         ensures memory { result ≡ Err Refusal.NoMemory → first_is_read text_of (given number self.now) ≡ true }
     {
-        let mut found = Vec::new(alloc);
+        let mut found = TextList::new(alloc);
         let mut left = self.fields();
         'fields: while let Some(field) = left.next() {
             steps::push_text(&mut found, field, number)?;

@@ -1,5 +1,5 @@
 //! One field more of a scan, from what the fields before gave.
-ghost use Rattle.std.specs.Prelude.{◌≡◌, [], ◌∷◌, map, true, is_some, Err};
+ghost use Rattle.std.specs.Prelude.{◌≡◌, [], ◌∷◌, true, is_some, Err};
 ghost use Rattle.std.specs.Option.{option_map};
 ghost use Rattle.wire_fields.specs.Field.{field_of};
 ghost use Rattle.wire_messages.specs.Answers.{Reads, ReadsInMemory, first_is_read, packed_first, first_number_is_read};
@@ -10,6 +10,7 @@ ghost use Rattle.wire_messages.specs.Scans.{text_of, last_from, all_from, one_fr
 use crate::errors::Unreadable;
 use crate::values;
 use list_types::Refusal;
+use text_lists::TextList;
 use wire_fields::{Field, varint};
 
 #[tactic(auto, unfolding(crate::specs::Message::number_at))]
@@ -105,12 +106,12 @@ pub(crate) fn next_message<'a>(
     Ok(Some(bytes))
 }
 
-pub(crate) fn push_text<'a>(
-    found: &mut Vec<&'a str>,
-    field: Field<'a>,
+pub(crate) fn push_text(
+    found: &mut TextList,
+    field: Field<'_>,
     number: u32,
 ) -> Result<(), Refusal<Unreadable>>
-    ensures exact { ReadsInMemory (λ _. map (λ x. x.now) found.new.items) result (all_from text_of number (map (λ x. x.now) found.old.items) (field_of field.entry ∷ [])) }
+    ensures exact { ReadsInMemory (λ _. found.new) result (all_from text_of number found.old (field_of field.entry ∷ [])) }
     ensures memory { result ≡ Err Refusal.NoMemory → first_is_read text_of (given number (field_of field.entry ∷ [])) ≡ true }
 {
     if values::number_of(field) == number {

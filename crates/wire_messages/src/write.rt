@@ -8,6 +8,7 @@ ghost use Rattle.wire_messages.specs.Written.{Uint32, Uint64, Int32, Int64, Flag
 
 use list_types::NoMemory;
 use std::alloc::Global;
+use text_lists::TextList;
 use wire_fields::Writer;
 
 fn unless_zero(writer: &mut Writer, number: u32, value: u64) -> Result<(), NoMemory>
@@ -199,15 +200,16 @@ pub fn packed(
 }
 
 /// A repeated `string` field: each text, also an empty one. Where memory is out, some may be added.
-pub fn texts(writer: &mut Writer, number: u32, values: &[list_types::Text]) -> Result<(), NoMemory>
+pub fn texts(writer: &mut Writer, number: u32, values: &TextList) -> Result<(), NoMemory>
     requires not_zero { 1 ≤ number }
     requires in_range { number ≤ 536870911 }
     ensures ok { OnOk result (writer.new ≡ writer.old ++ row_bytes number (Texts values.now)) }
     ensures err { OnErr result ((count : ℕ) × (writer.new ≡ writer.old ++ row_bytes number (Texts (take count values.now)))) }
     ensures fits { OnOk result (InRange (Texts values.now)) }
 {
-    for text in values {
-        writer.bytes(number, text.as_str().as_bytes())?;
+    let mut left = values.iter();
+    'texts: while let Some(text) = left.next() {
+        writer.bytes(number, text)?;
     }
     Ok(())
 }

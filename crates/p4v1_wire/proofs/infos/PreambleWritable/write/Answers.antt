@@ -6,5 +6,4 @@ unfolding preamble_rows PreambleInRange
 returns-clause-in_range c =
     let name = rw c.as_str.ensures at c.in_ok-text.ensures.fits in
     let alias = rw c.as_str-2.ensures at c.in_ok-text-2.ensures.fits in
-    let annotations = rw c.as_slice.ensures at c.in_ok-texts.ensures.fits in
-    (c.in_ok-uint32.ensures.fits, (name, (alias, (annotations, tt))))
+    (c.in_ok-uint32.ensures.fits, (name, (alias, (c.in_ok-texts.ensures.fits, tt))))

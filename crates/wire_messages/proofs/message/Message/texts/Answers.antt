@@ -1,4 +1,4 @@
-use Rattle.std.proofs.Common.{◌++◌, map}
+use Rattle.std.proofs.Common.{◌++◌}
 use Rattle.wire_messages.specs.Message.{texts_at}
 use Rattle.wire_messages.specs.Scans.{text_of}
 use Rattle.std.proofs.lemmas.Result.{err_from_is_err_and}
@@ -8,12 +8,12 @@ use Rattle.wire_messages.proofs.message.Message.texts.Goals as goal
 
 pub fields-init : goal.fields-init
 unfolding texts_at
-fields-init c = rw (c.fields-left.ensures, c.new-found.ensures.items) (all_start _ c.args.number _, λ asked. asked)
+fields-init c = rw (c.fields-left.ensures, c.new-found.ensures) (all_start _ c.args.number _, λ asked. asked)
 
 pub fields-preserved : goal.fields-preserved
 fields-preserved c = (
   scan_next _ (all_scan text_of c.args.number) _ _ _ _ _ _ c.in-Some.ensures.some c.fields.invariant.0 c.in_ok-push_text.ensures.exact,
-  asks_next text_of _ (first_asks text_of) (λ values. map (λ x. x.now) c.fields.found.items ++ values) c.args.number _ _ _ _ _ c.in-Some.ensures.some c.fields.invariant.1 c.in_ok-push_text.ensures.exact,
+  asks_next text_of _ (first_asks text_of) (λ values. c.fields.found ++ values) c.args.number _ _ _ _ _ c.in-Some.ensures.some c.fields.invariant.1 c.in_ok-push_text.ensures.exact,
 )
 
 pub returns-in_err-push_text-clause-exact : goal.returns-in_err-push_text-clause-exact
