@@ -5,6 +5,7 @@ use Rattle.std.specs.List.{list_any, flat_map}
 use Rattle.wire_fields.specs.Fields.{Payload}
 use Rattle.list_types.specs.Options.{◌>>=◌}
 use Rattle.wire_messages.specs.Message.{each, bytes_of}
+use Rattle.info_rules.specs.Pairs.{joined}
 
 -- what is read of the messages that are left
 abbrev pub read_of : {A : Type 0} → (List ℕ → Option A) → List Payload → Option (List A)
@@ -21,6 +22,12 @@ abbrev pub Gathers : {A V : Type 0} → Option (List A) → Option (List A) → 
 Gathers None rest gives before now = ⊤
 Gathers (Some all) None gives before now = ⊥
 Gathers (Some all) (Some rest) gives before now = before ++ flat_map gives all ≡ now ++ flat_map gives rest
+
+-- Where all are read, a set of pairs there was before with those of all is the set that there is now with those of what is left.
+abbrev pub Joins : {A : Type 0} → Option (List A) → Option (List A) → (A → List (ℕ × ℕ)) → List (ℕ × ℕ) → List (ℕ × ℕ) → Type 0
+Joins None rest gives before now = ⊤
+Joins (Some all) None gives before now = ⊥
+Joins (Some all) (Some rest) gives before now = joined before (flat_map gives all) ≡ joined now (flat_map gives rest)
 
 -- Where all are bytes, so many more than those that are left.
 abbrev pub Counts : {A : Type 0} → Option (List A) → Option (List A) → ℕ → Type 0

@@ -1,3 +1,4 @@
 pub mod Asked
 pub mod Gathered
+pub mod Joined
 pub mod Texts

@@ -1,1 +1,2 @@
 pub mod Flaw
+pub mod Pairs

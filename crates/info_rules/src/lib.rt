@@ -6,6 +6,7 @@ mod flaw;
 mod gathering;
 mod kinds;
 mod opened;
+mod pairs;
 mod parts;
 mod read;
 mod readable;

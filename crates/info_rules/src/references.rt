@@ -2,7 +2,6 @@
 ghost use Rattle.std.specs.Prelude.{◌≡◌, ◌==◌, ◌++◌, [], ◌∷◌, if◌then◌else◌, Some, IfSome, OnOk, map, nat_eq};
 ghost use Rattle.std.specs.List.{list_any};
 ghost use Rattle.wire_messages.specs.Answers.{ReadsInMemory};
-ghost use Rattle.wire_messages.specs.Message.{uint32s_at};
 ghost use Rattle.p4v1_read.specs.P4Infos.{p4info_of, table_of, action_profile_of, direct_counter_of, action_ref_of};
 ghost use Rattle.p4info_model.specs.Objects.{id_of};
 ghost use Rattle.p4info_model.specs.Rules.{breaks_i5, lacks_some, lacks_default, differ, same_pair, action_uses, profiles_of_tables, profile_tables, tables_of_profiles, table_counters, counters_of_tables, tables_of_counters};
@@ -10,8 +9,9 @@ ghost use Rattle.p4info_model.specs.Rules.{breaks_i5, lacks_some, lacks_default,
 use crate::asking::{Question, any};
 use crate::gathering::{Gift, gather};
 use crate::kinds::{Id, Kind};
+use crate::pairs::{Naming, pairs_differ};
 use crate::parts::PartId;
-use list_types::{NoMemory, Refusal};
+use list_types::Refusal;
 use p4_types::p4info::{Action, ActionProfile, ActionRef, DirectCounter, Table};
 use p4info_model::repeats;
 use std::alloc::Global;
@@ -105,117 +105,33 @@ impl Gift<Table, (u32, u32)> for ProfileOfTable {
     }
 }
 
-fn push_in_front(pairs: &mut Vec<(u32, u32)>, first: &[u32], second: u32) -> Result<(), NoMemory>
-    ensures { OnOk result (pairs.new.items ≡ pairs.old.items ++ map (λ x. (x, second)) first.now) }
-{
-    for number in first {
-        pairs.push((*number, second))?;
-    }
-    Ok(())
-}
+impl Naming for ActionProfile {
+    ghost named_ids = { λ profile. profile.table_ids };
 
-fn push_behind(pairs: &mut Vec<(u32, u32)>, first: u32, second: &[u32]) -> Result<(), NoMemory>
-    ensures { OnOk result (pairs.new.items ≡ pairs.old.items ++ map (λ x. (first, x)) second.now) }
-{
-    for number in second {
-        pairs.push((first, *number))?;
-    }
-    Ok(())
-}
-
-// Adds the numbers of a field in front of another number.
-fn put_in_front(
-    alloc: Global,
-    pairs: &mut Vec<(u32, u32)>,
-    message: &Message<'_>,
-    number: u32,
-    second: u32,
-) -> Result<(), Refusal<Unreadable>>
-    ensures { IfSome (uint32s_at number message.now) (λ all. ReadsInMemory (λ _. pairs.new.items) result (Some (pairs.old.items ++ map (λ x. (x, second)) all))) }
-{
-    let first = message.uint32s(alloc, number)?;
-    push_in_front(pairs, first.as_slice(), second)?;
-    Ok(())
-}
-
-// Adds the numbers of a field behind another number.
-fn put_behind(
-    alloc: Global,
-    pairs: &mut Vec<(u32, u32)>,
-    message: &Message<'_>,
-    number: u32,
-    first: u32,
-) -> Result<(), Refusal<Unreadable>>
-    ensures { IfSome (uint32s_at number message.now) (λ all. ReadsInMemory (λ _. pairs.new.items) result (Some (pairs.old.items ++ map (λ x. (first, x)) all))) }
-{
-    let second = message.uint32s(alloc, number)?;
-    push_behind(pairs, first, second.as_slice())?;
-    Ok(())
-}
-
-#[tactic(auto, unfolding(p4v1_read::specs::P4Infos::action_profile_of))]
-fn put_tables(
-    alloc: Global,
-    pairs: &mut Vec<(u32, u32)>,
-    message: &Message<'_>,
-    id: u32,
-) -> Result<(), Refusal<Unreadable>>
-    ensures { IfSome (action_profile_of message.now) (λ profile. ReadsInMemory (λ _. pairs.new.items) result
-        (Some (pairs.old.items ++ map (λ x. (x, id)) profile.table_ids))) }
-{
-    put_in_front(alloc, pairs, message, 2, id)
-}
-
-#[tactic(auto, unfolding(p4v1_read::specs::P4Infos::table_of))]
-fn put_counters(
-    alloc: Global,
-    pairs: &mut Vec<(u32, u32)>,
-    message: &Message<'_>,
-    id: u32,
-) -> Result<(), Refusal<Unreadable>>
-    ensures { IfSome (table_of message.now) (λ table. ReadsInMemory (λ _. pairs.new.items) result
-        (Some (pairs.old.items ++ map (λ x. (id, x)) table.direct_resource_ids))) }
-{
-    put_behind(alloc, pairs, message, 7, id)
-}
-
-/// A profile behind each table that it names.
-struct TablesOfProfile;
-
-impl Gift<ActionProfile, (u32, u32)> for TablesOfProfile {
-    ghost meaning = { action_profile_of };
-
-    ghost gives = { λ _ profile. profile_tables profile };
+    ghost paired = { λ own named. (named, own) };
 
     #[tactic(auto, unfolding(p4v1_read::specs::P4Infos::action_profile_of))]
-    fn put(
-        &self,
-        alloc: Global,
-        found: &mut Vec<(u32, u32)>,
-        message: &Message<'_>,
-    ) -> Result<(), Refusal<Unreadable>> {
-        let id = ActionProfile::id(message)?;
-        put_tables(alloc, found, message, id)
+    fn named(alloc: Global, message: &Message<'_>) -> Result<Vec<u32>, Refusal<Unreadable>> {
+        message.uint32s(alloc, 2)
+    }
+
+    fn pair(own: u32, named: u32) -> (u32, u32) {
+        (named, own)
     }
 }
 
-/// A table with each direct counter that it names.
-struct CountersOfTable;
+impl Naming for Table {
+    ghost named_ids = { λ table. table.direct_resource_ids };
 
-impl Gift<Table, (u32, u32)> for CountersOfTable {
-    ghost meaning = { table_of };
-
-    ghost gives = { λ _ table. table_counters table };
+    ghost paired = { λ own named. (own, named) };
 
     #[tactic(auto, unfolding(p4v1_read::specs::P4Infos::table_of))]
-    fn put(
-        &self,
-        alloc: Global,
-        found: &mut Vec<(u32, u32)>,
-        message: &Message<'_>,
-    ) -> Result<(), Refusal<Unreadable>> {
-        let id = Table::id(message)?;
-        put_counters(alloc, found, message, id)
+    fn named(alloc: Global, message: &Message<'_>) -> Result<Vec<u32>, Refusal<Unreadable>> {
+        message.uint32s(alloc, 7)
+    }
+
+    fn pair(own: u32, named: u32) -> (u32, u32) {
+        (own, named)
     }
 }
 
@@ -248,24 +164,14 @@ fn profiles_differ(alloc: Global, message: &Message<'_>) -> Result<bool, Refusal
 {
     let mut named = Vec::new(alloc);
     gather::<Table, (u32, u32), ProfileOfTable>(&ProfileOfTable, alloc, &mut named, message, 2)?;
-    let mut naming = Vec::new(alloc);
-    gather::<ActionProfile, (u32, u32), TablesOfProfile>(
-        &TablesOfProfile,
-        alloc,
-        &mut naming,
-        message,
-        4,
-    )?;
-    Ok(repeats::pairs_differ(alloc, named.as_slice(), naming.as_slice())?)
+    pairs_differ::<ActionProfile>(alloc, named.as_slice(), message, 4)
 }
 
-#[tactic(auto, using(crate::proofs::Gathered::flat_map_single), unfolding(p4v1_read::specs::P4Infos::p4info_of))]
+#[tactic(auto, using(crate::proofs::Gathered::flat_map_single, crate::proofs::Joined::differ_turned), unfolding(p4v1_read::specs::P4Infos::p4info_of))]
 fn counters_differ(alloc: Global, message: &Message<'_>) -> Result<bool, Refusal<Unreadable>>
     ensures { IfSome (p4info_of message.now) (λ info. ReadsInMemory (λ x. x) result
         (Some (differ same_pair (counters_of_tables info) (tables_of_counters info)))) }
 {
-    let mut named = Vec::new(alloc);
-    gather::<Table, (u32, u32), CountersOfTable>(&CountersOfTable, alloc, &mut named, message, 2)?;
     let mut naming = Vec::new(alloc);
     gather::<DirectCounter, (u32, u32), TableOfCounter>(
         &TableOfCounter,
@@ -274,7 +180,7 @@ fn counters_differ(alloc: Global, message: &Message<'_>) -> Result<bool, Refusal
         message,
         6,
     )?;
-    Ok(repeats::pairs_differ(alloc, named.as_slice(), naming.as_slice())?)
+    pairs_differ::<Table>(alloc, naming.as_slice(), message, 2)
 }
 
 #[tactic(auto, unfolding(p4v1_read::specs::P4Infos::p4info_of))]
