@@ -1,5 +1,5 @@
 -- Fields by their headers' types, and what stands in two lists.
-use Rattle.std.proofs.Common.{◌≡◌, ℕ, Bool, List, Option, Some, None, refl, ap, ◌∙◌, ◌++◌, option_map, option_and_then, append_assoc}
+use Rattle.std.proofs.Common.{◌≡◌, ℕ, Bool, List, Option, Some, None, refl, ◌++◌, option_map, option_and_then}
 use Rattle.std.specs.List.{find}
 use Rattle.std.specs.Option.{option_or}
 use Rattle.std.proofs.lemmas.List.Folds.{find-append}
@@ -23,7 +23,3 @@ field_by_type raw header field = by_header raw (header_named raw header) field
 -- what is found in two lists
 pub find_in_both : {X : Type 0} (p : X → Bool) (xs ys : List X) → find p (xs ++ ys) ≡ option_or (find p xs) (find p ys)
 find_in_both p xs ys = find-append p xs ys
-
--- a list with two more behind it
-pub append_twice : {X : Type 0} (before middle after first second : List X) → middle ≡ before ++ first → after ≡ middle ++ second → after ≡ before ++ (first ++ second)
-append_twice before middle after first second e f = f ∙ (ap (λ xs. xs ++ second) e ∙ append_assoc before first second)

@@ -1,14 +1,11 @@
 -- Items by one test of sameness and by another.
-use Rattle.std.proofs.Common.{◌≡◌, ℕ, ◌∙◌, refl, ap, sym, Bool, cond, not, ◌||◌, nat_eq, nat_lt, List, [], ◌∷◌, ◌++◌, length, map, Bor, true, false, suc, arith}
+use Rattle.std.proofs.Common.{◌≡◌, ℕ, ◌∙◌, refl, ap, sym, Bool, cond, ◌||◌, nat_eq, nat_lt, List, [], ◌∷◌, length, map, true, false, suc, arith}
 use Rattle.std.specs.List.{list_any}
 use Rattle.std.specs.Set.{is_member, unique_keys, distinct_count}
-use Rattle.std.specs.Str.{bytes_eq}
 use Rattle.std.specs.Ordering.{eq_by_cmp, nat_cmp}
-use Rattle.std.specs.Cmp.Lexicographic.{slice_cmp}
-use Rattle.std.proofs.lemmas.Map.Text.{is_eq-slice_cmp}
 use Rattle.std.proofs.lemmas.List.{length-map}
 use Rattle.std.proofs.lemmas.Bool.Decides.{nat_tests}
-use Rattle.bm_rules.specs.Names.{repeats, lack, name_nothing}
+use Rattle.bm_rules.specs.Names.{repeats}
 
 -- the same test of each item
 pub list_any_same : {A : Type 0} (p q : A → Bool) → ((x : A) → p x ≡ q x) → (xs : List A) → list_any p xs ≡ list_any q xs
@@ -44,15 +41,6 @@ numbers_same x y = grind (arith, nat_tests)
 
 pub numbers_repeat : (xs : List ℕ) → repeats (eq_by_cmp nat_cmp) xs ≡ repeats nat_eq xs
 numbers_repeat xs = repeats_seen (λ x. x) nat_eq (eq_by_cmp nat_cmp) numbers_same xs ∙ ap (repeats nat_eq) (map_itself xs)
-
-lack_by : {A B : Type 0} (f : A → B) (e : B → B → Bool) (c : A → A → Bool) → ((x y : A) → c x y ≡ e (f x) (f y)) → (whole parts : List A) → lack c whole parts ≡ lack e (map f whole) (map f parts)
-lack_by f e c same whole parts =
-    list_any_same (λ p. not (is_member c whole p)) (λ p. not (is_member e (map f whole) (f p)))
-    (λ p. ap not (list_any_same (c p) (λ y. e (f p) (f y)) (same p) whole ∙ sym (list_any_map (e (f p)) f whole))) parts
-    ∙ sym (list_any_map (λ q. not (is_member e (map f whole) q)) f parts)
-
-pub texts_lack : (whole parts : List (Bor (List ℕ))) → lack (eq_by_cmp (λ x y. slice_cmp nat_cmp x.now y.now)) whole parts ≡ name_nothing (map (λ x. x.now) whole) (map (λ x. x.now) parts)
-texts_lack whole parts = lack_by (λ x. x.now) bytes_eq (eq_by_cmp (λ x y. slice_cmp nat_cmp x.now y.now)) (λ x y. is_eq-slice_cmp x.now y.now) whole parts
 
 -- what is made of an item in two steps
 pub map_twice : {A B C : Type 0} (g : B → C) (f : A → B) → (xs : List A) → map (λ x. g (f x)) xs ≡ map g (map f xs)

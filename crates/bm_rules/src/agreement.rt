@@ -5,7 +5,7 @@ ghost use Rattle.p4info_model.specs.Lookups.{action_at, profile_at};
 ghost use Rattle.bm_rules.specs.Names.{named};
 ghost use Rattle.bm_rules.specs.Agreement.{same_kind, field_agrees, datum_agrees, profile_has_own, keys_agree, key_agrees, table_named, tables_agree, data_agree, id_beside, action_agrees, id_agrees, reference_agrees, table_has_references, references_agree, selector_agrees, is_of_kind, is_name, has_profile, is_simple, profile_agrees, table_profile_agrees, profiles_agree, is_size, size_agrees, counters_agree, digests_agree, has_egress_spec};
 
-use crate::scope::Scope;
+use crate::scope::{Scope, Standing, all_stand};
 use crate::{fields, names, references};
 use bm_records::raw::{self, Datum, KeyField, RawProgram, TableKind};
 use bm_values::literals::width_bits;
@@ -59,12 +59,14 @@ fn table_named<'p, 'a>(raw: &'p RawProgram<'a>, name: &str) -> Option<&'p raw::T
     )
 }
 
-fn table_agrees(scope: &Scope, table: &Table) -> bool
-    ensures { result ≡ key_agrees scope.now.raw.now table.now.match_fields (table_named scope.now.raw.now table.now.preamble.name) }
-{
-    match table_named(scope.raw, table.preamble.name.as_str()) {
-        None => false,
-        Some(found) => keys_agree(scope, found.key.as_slice(), table.match_fields.as_slice()),
+impl Standing for Table {
+    ghost meaning = { λ raw table. key_agrees raw table.match_fields (table_named raw table.preamble.name) };
+
+    fn stands(&self, scope: &Scope) -> bool {
+        match table_named(scope.raw, self.preamble.name.as_str()) {
+            None => false,
+            Some(found) => keys_agree(scope, found.key.as_slice(), self.match_fields.as_slice()),
+        }
     }
 }
 
@@ -72,8 +74,7 @@ fn table_agrees(scope: &Scope, table: &Table) -> bool
 pub(crate) fn tables_agree(scope: &Scope, info: &Info) -> bool
     ensures { result ≡ tables_agree scope.now.raw.now info.now }
 {
-    let tables = info.tables.as_slice();
-    tables.iter().all(|table| table_agrees(scope, table))
+    all_stand(scope, info.tables.as_slice())
 }
 
 fn datum_agrees(datum: &Datum, param: &Param) -> bool
@@ -213,21 +214,24 @@ pub(crate) fn references_agree(
     Ok(true)
 }
 
-fn profile_has_own(raw: &RawProgram, profile: &ActionProfile) -> bool
-    ensures { result ≡ profile_has_own raw.now profile.now }
-{
-    let found = names::named_in_both(
-        raw.pipelines.ingress.action_profiles.as_slice(),
-        raw.pipelines.egress.action_profiles.as_slice(),
-        profile.preamble.name.as_str(),
-    );
-    match found {
-        None => false,
-        Some(found) => {
-            if profile.with_selector {
-                found.selector.is_some()
-            } else {
-                found.selector.is_none()
+impl Standing for ActionProfile {
+    ghost meaning = { profile_has_own };
+
+    fn stands(&self, scope: &Scope) -> bool {
+        let pipelines = &scope.raw.pipelines;
+        let found = names::named_in_both(
+            pipelines.ingress.action_profiles.as_slice(),
+            pipelines.egress.action_profiles.as_slice(),
+            self.preamble.name.as_str(),
+        );
+        match found {
+            None => false,
+            Some(found) => {
+                if self.with_selector {
+                    found.selector.is_some()
+                } else {
+                    found.selector.is_none()
+                }
             }
         }
     }
@@ -285,13 +289,6 @@ fn table_profile_agrees(raw: &RawProgram, info: &Info, table: &Table) -> bool
     }
 }
 
-fn all_profiles_agree(raw: &RawProgram, info: &Info) -> bool
-    ensures { result ≡ list_all (profile_has_own raw.now) info.now.action_profiles }
-{
-    let profiles = info.action_profiles.as_slice();
-    profiles.iter().all(|profile| profile_has_own(raw, profile))
-}
-
 fn all_tables_agree(raw: &RawProgram, info: &Info) -> bool
     ensures { result ≡ list_all (λ table. table_profile_agrees info.now table.action_profile (table_named raw.now table.preamble.name)) info.now.tables }
 {
@@ -302,10 +299,10 @@ fn all_tables_agree(raw: &RawProgram, info: &Info) -> bool
 }
 
 /// Whether each action profile of the P4Info has one of its name and kind, and each table has its own: L12.
-pub(crate) fn profiles_agree(raw: &RawProgram, info: &Info) -> bool
-    ensures { result ≡ profiles_agree raw.now info.now }
+pub(crate) fn profiles_agree(scope: &Scope, info: &Info) -> bool
+    ensures { result ≡ profiles_agree scope.now.raw.now info.now }
 {
-    all_profiles_agree(raw, info) && all_tables_agree(raw, info)
+    all_stand(scope, info.action_profiles.as_slice()) && all_tables_agree(scope.raw, info)
 }
 
 fn is_size(size: u64, given: Option<u64>) -> bool
@@ -317,38 +314,44 @@ fn is_size(size: u64, given: Option<u64>) -> bool
     }
 }
 
-fn counter_agrees(raw: &RawProgram, counter: &Counter) -> bool
-    ensures { result ≡ size_agrees counter.now.size (named (λ x. x.name) counter.now.preamble.name raw.now.counter_arrays) }
-{
-    match names::named(
-        raw.counter_arrays.as_slice(),
-        counter.preamble.name.as_str(),
-    ) {
-        None => false,
-        Some(found) => !found.is_direct && is_size(counter.size, found.size),
+impl Standing for Counter {
+    ghost meaning = { λ raw counter. size_agrees counter.size (named (λ x. x.name) counter.preamble.name raw.counter_arrays) };
+
+    fn stands(&self, scope: &Scope) -> bool {
+        match names::named(
+            scope.raw.counter_arrays.as_slice(),
+            self.preamble.name.as_str(),
+        ) {
+            None => false,
+            Some(found) => !found.is_direct && is_size(self.size, found.size),
+        }
     }
 }
 
 /// Whether each indirect counter of the P4Info has an array of its name and size: L13.
-pub(crate) fn counters_agree(raw: &RawProgram, info: &Info) -> bool
-    ensures { result ≡ counters_agree raw.now info.now }
+pub(crate) fn counters_agree(scope: &Scope, info: &Info) -> bool
+    ensures { result ≡ counters_agree scope.now.raw.now info.now }
 {
-    let counters = info.counters.as_slice();
-    counters.iter().all(|counter| counter_agrees(raw, counter))
+    all_stand(scope, info.counters.as_slice())
 }
 
-fn digest_agrees(raw: &RawProgram, digest: &Digest) -> bool
-    ensures { result ≡ is_some (named (λ x. x.name) digest.now.preamble.name raw.now.learn_lists) }
-{
-    names::named(raw.learn_lists.as_slice(), digest.preamble.name.as_str()).is_some()
+impl Standing for Digest {
+    ghost meaning = { λ raw digest. is_some (named (λ x. x.name) digest.preamble.name raw.learn_lists) };
+
+    fn stands(&self, scope: &Scope) -> bool {
+        names::named(
+            scope.raw.learn_lists.as_slice(),
+            self.preamble.name.as_str(),
+        )
+        .is_some()
+    }
 }
 
 /// Whether each digest of the P4Info has a learn list of its name: L14.
-pub(crate) fn digests_agree(raw: &RawProgram, info: &Info) -> bool
-    ensures { result ≡ digests_agree raw.now info.now }
+pub(crate) fn digests_agree(scope: &Scope, info: &Info) -> bool
+    ensures { result ≡ digests_agree scope.now.raw.now info.now }
 {
-    let digests = info.digests.as_slice();
-    digests.iter().all(|digest| digest_agrees(raw, digest))
+    all_stand(scope, info.digests.as_slice())
 }
 
 /// Whether `standard_metadata.egress_spec` is there and has 9 bits: L15.

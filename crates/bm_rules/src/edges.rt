@@ -1,15 +1,16 @@
 //! The graphs of the parser and of a pipeline's nodes: L6 and L7.
-ghost use Rattle.std.specs.Prelude.{◌≡◌, ◌++◌, ◌+◌, ◌<◌, ◌^◌, length, map, IfOk, OnOk};
+ghost use Rattle.std.specs.Prelude.{◌≡◌, ◌++◌, map, IfOk, OnOk};
 ghost use Rattle.std.specs.List.{flat_map};
-ghost use Rattle.bm_rules.specs.Graphs.{has_loop, as_places, next_state, state_edges, node_place, optional_node, table_edges, conditional_edges, node_edges};
+ghost use Rattle.bm_rules.specs.Graphs.{has_loop, as_places, next_state, state_edges, optional_node, table_edges, conditional_edges, node_edges};
 ghost use Rattle.bm_rules.specs.Flaw.{nodes_loop};
 
+use crate::nodes::{self, Nodes};
 use crate::{graphs, names};
 use bm_records::raw::{
     Conditional, NextTable, ParseState, Parser, Pipeline, Pipelines, Table, Transition,
 };
 use list_types::{List, NoMemory};
-use name_index::{Index, Name};
+use name_index::Name;
 use std::alloc::Global;
 
 fn push_place(edges: &mut List<usize>, place: Option<usize>) -> Result<(), NoMemory>
@@ -64,55 +65,11 @@ pub(crate) fn states_loop(alloc: Global, parser: &Parser) -> Result<bool, NoMemo
     graphs::has_loop(alloc, edges.as_slice())
 }
 
-/// A pipeline, with its nodes found by their names.
-#[derive(Drop)]
-struct Nodes<'p, 'a> {
-    pipeline: &'p Pipeline<'a>,
-    tables: Index<'p, Table<'a>>,
-    conditionals: Index<'p, Conditional<'a>>,
-    ghost of_tables: { tables ≡ pipeline.now.tables },
-    ghost of_conditionals: { conditionals ≡ pipeline.now.conditionals },
-    ghost room: { length pipeline.now.tables + length pipeline.now.conditionals < 2 ^ 64 },
-}
-
-impl<'p, 'a> Nodes<'p, 'a> {
-    fn of(alloc: Global, pipeline: &'p Pipeline<'a>) -> Result<Nodes<'p, 'a>, NoMemory>
-        ensures { IfOk result (λ nodes. nodes.pipeline.now ≡ pipeline.now) }
-    {
-        Ok(Nodes {
-            pipeline,
-            tables: Index::of(alloc, pipeline.tables.as_slice())?,
-            conditionals: Index::of(alloc, pipeline.conditionals.as_slice())?,
-        })
-    }
-}
-
-fn node_place(nodes: &Nodes, name: &Name) -> Option<usize>
-    ensures { result ≡ node_place nodes.now.pipeline.now name.now }
-{
-    if let Some(place) = nodes.tables.place(name) {
-        return Some(place);
-    }
-    match nodes.conditionals.place(name) {
-        Some(place) => Some(nodes.pipeline.tables.len() + place),
-        None => None,
-    }
-}
-
-fn optional_node(nodes: &Nodes, name: &Option<Name>) -> Option<usize>
-    ensures { result ≡ optional_node nodes.now.pipeline.now name.now }
-{
-    match name {
-        None => None,
-        Some(name) => node_place(nodes, name),
-    }
-}
-
 fn push_nexts(edges: &mut List<usize>, nodes: &Nodes, nexts: &[NextTable]) -> Result<(), NoMemory>
     ensures { OnOk result (edges.new ≡ edges.old ++ flat_map (λ next. as_places (optional_node nodes.now.pipeline.now next.node)) nexts.now) }
 {
     for next in nexts {
-        push_place(edges, optional_node(nodes, &next.node))?;
+        push_place(edges, nodes::optional_node(nodes, &next.node))?;
     }
     Ok(())
 }
@@ -122,7 +79,10 @@ fn table_edges(alloc: Global, nodes: &Nodes, table: &Table) -> Result<List<usize
 {
     let mut edges = List::new(alloc);
     push_nexts(&mut edges, nodes, table.next_tables.as_slice())?;
-    push_place(&mut edges, optional_node(nodes, &table.base_default_next))?;
+    push_place(
+        &mut edges,
+        nodes::optional_node(nodes, &table.base_default_next),
+    )?;
     Ok(edges)
 }
 
@@ -134,8 +94,14 @@ fn conditional_edges(
     ensures { IfOk result (λ edges. edges ≡ conditional_edges nodes.now.pipeline.now conditional.now) }
 {
     let mut edges = List::new(alloc);
-    push_place(&mut edges, optional_node(nodes, &conditional.true_next))?;
-    push_place(&mut edges, optional_node(nodes, &conditional.false_next))?;
+    push_place(
+        &mut edges,
+        nodes::optional_node(nodes, &conditional.true_next),
+    )?;
+    push_place(
+        &mut edges,
+        nodes::optional_node(nodes, &conditional.false_next),
+    )?;
     Ok(edges)
 }
 

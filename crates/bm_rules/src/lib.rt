@@ -9,6 +9,7 @@ mod keys;
 mod kinds;
 pub mod names;
 mod nexts;
+mod nodes;
 mod operations;
 mod references;
 mod rules;

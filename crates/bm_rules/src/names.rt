@@ -3,14 +3,12 @@ ghost use Rattle.std.specs.Prelude.{◌≡◌, ◌<◌, ◌++◌, length, map, I
 ghost use Rattle.std.specs.Cmp.Lexicographic.{slice_cmp};
 ghost use Rattle.std.specs.Ordering.{eq_by_cmp, nat_cmp};
 ghost use Rattle.std.specs.Str.{bytes_eq};
-ghost use Rattle.std.specs.BTreeSet.{IsFromIterResult};
-ghost use Rattle.bm_rules.specs.Names.{named, place_of, lack, repeats, names_repeat, name_nothing};
+ghost use Rattle.bm_rules.specs.Names.{named, place_of, repeats, names_repeat};
 
 use list_types::NoMemory;
 use name_index::Labelled;
-use std::alloc::{AllocError, Global};
+use std::alloc::Global;
 use std::cmp::Ordering;
-use std::collections::BTreeSet;
 
 /// The first object of a name.
 pub fn named<'a, T: Labelled>(objects: &'a [T], name: &str) -> Option<&'a T>
@@ -42,12 +40,6 @@ pub fn place_of<T: Labelled>(objects: &[T], name: &str) -> Option<usize>
     objects.iter().position(|object| object.name() == name)
 }
 
-fn set_of<T: Ord + Copy>(alloc: Global, items: &[T]) -> Result<BTreeSet<T>, AllocError>
-    ensures { IfOk result (IsFromIterResult T.cmp items.now) }
-{
-    items.iter().copied().collect(alloc)
-}
-
 /// Whether an item occurs twice. It takes no room: once they are sorted, each has to be below the next.
 fn repeats<T: Ord>(items: &mut [T]) -> bool
     ensures { result ≡ repeats (eq_by_cmp T.cmp) items.old }
@@ -56,44 +48,12 @@ fn repeats<T: Ord>(items: &mut [T]) -> bool
     !items.is_sorted_by(|earlier, later| earlier.cmp(later).is_lt())
 }
 
-fn lacks_some<T: Ord + Copy>(alloc: Global, whole: &[T], parts: &[T]) -> Result<bool, NoMemory>
-    ensures { IfOk result (λ answer. answer ≡ lack (eq_by_cmp T.cmp) whole.now parts.now) }
-{
-    let set = set_of(alloc, whole)?;
-    for part in parts {
-        if !set.contains(part) {
-            return Ok(true);
-        }
-    }
-    Ok(false)
-}
-
-/// Whether one of some texts is none of others.
-pub(crate) fn name_nothing(alloc: Global, those: &[&str], these: &[&str]) -> Result<bool, NoMemory>
-    ensures { IfOk result (λ answer. answer ≡ name_nothing (map (λ x. x.now) those.now) (map (λ x. x.now) these.now)) }
-{
-    Ok(lacks_some(alloc, those, these)?)
-}
-
 /// Whether a number occurs twice; it sorts them.
 #[tactic(auto, using(crate::proofs::Sameness::numbers_repeat))]
 pub(crate) fn numbers_repeat(numbers: &mut [u64]) -> bool
     ensures { result ≡ repeats nat_eq numbers.old }
 {
     repeats(numbers)
-}
-
-/// Adds the names of objects.
-pub(crate) fn push_names<'a, T: Labelled>(
-    names: &mut Vec<&'a str>,
-    objects: &'a [T],
-) -> Result<(), NoMemory>
-    ensures { OnOk result (map (λ x. x.now) names.new.items ≡ map (λ x. x.now) names.old.items ++ map T.label objects.now) }
-{
-    for object in objects {
-        names.push(object.name())?;
-    }
-    Ok(())
 }
 
 fn by_name<T: Labelled>(earlier: &T, later: &T) -> Ordering

@@ -1,129 +1,95 @@
-//! Names of nodes and of calculations, and those of them that stand for nothing.
-ghost use Rattle.std.specs.Prelude.{◌≡◌, ◌++◌, [], ◌∷◌, map, OnOk, IfOk};
-ghost use Rattle.std.specs.List.{flat_map};
-ghost use Rattle.bm_rules.specs.Names.{name_nothing};
+//! Names of nodes and of calculations that stand for nothing.
+ghost use Rattle.std.specs.Prelude.{◌≡◌, map, not, is_some, IfOk};
+ghost use Rattle.std.specs.List.{list_any};
+ghost use Rattle.bm_rules.specs.Names.{named, name_nothing};
 ghost use Rattle.bm_rules.specs.References.{optional_name, node_names, table_nexts, conditional_nexts, nexts, list_names_nothing};
 
-use crate::names;
-use bm_records::raw::{Checksum, Conditional, NextTable, Pipeline, RawProgram, Table};
+use crate::nodes::{self, Nodes};
+use bm_records::raw::{Calculation, Checksum, Conditional, NextTable, Pipeline, RawProgram, Table};
 use list_types::NoMemory;
-use name_index::Name;
+use name_index::{Index, Name};
 use std::alloc::Global;
 
-/// Adds a name where there is one.
-pub(crate) fn push_optional<'a>(
-    names: &mut Vec<&'a str>,
-    name: &'a Option<Name>,
-) -> Result<(), NoMemory>
-    ensures { OnOk result (map (λ x. x.now) names.new.items ≡ map (λ x. x.now) names.old.items ++ optional_name name.now) }
+fn optional_lacks(nodes: &Nodes, name: &Option<Name>) -> bool
+    ensures { result ≡ name_nothing (node_names nodes.now.pipeline.now) (optional_name name.now) }
 {
-    if let Some(name) = name {
-        names.push(name.as_str())?;
+    match name {
+        None => false,
+        Some(name) => !nodes::is_node(nodes, name),
     }
-    Ok(())
 }
 
-fn push_next_tables<'a>(names: &mut Vec<&'a str>, nexts: &'a [NextTable]) -> Result<(), NoMemory>
-    ensures { OnOk result (map (λ x. x.now) names.new.items ≡ map (λ x. x.now) names.old.items ++ flat_map (λ next. optional_name next.node) nexts.now) }
+fn any_next_lacks(nodes: &Nodes, nexts: &[NextTable]) -> bool
+    ensures { result ≡ list_any (λ next. name_nothing (node_names nodes.now.pipeline.now) (optional_name next.node)) nexts.now }
 {
-    for next in nexts {
-        push_optional(names, &next.node)?;
-    }
-    Ok(())
+    nexts.iter().any(|next| optional_lacks(nodes, &next.node))
 }
 
-/// Adds the names of the nodes that follow a table.
-#[tactic(auto, using(crate::proofs::Laid::append_twice))]
-pub(crate) fn push_table_nexts<'a>(
-    names: &mut Vec<&'a str>,
-    table: &'a Table,
-) -> Result<(), NoMemory>
-    ensures { OnOk result (map (λ x. x.now) names.new.items ≡ map (λ x. x.now) names.old.items ++ table_nexts table.now) }
+#[tactic(auto, using(crate::proofs::Nothing::of_table))]
+fn table_lacks(nodes: &Nodes, table: &Table) -> bool
+    ensures { result ≡ name_nothing (node_names nodes.now.pipeline.now) (table_nexts table.now) }
 {
-    push_next_tables(names, table.next_tables.as_slice())?;
-    push_optional(names, &table.base_default_next)
+    any_next_lacks(nodes, table.next_tables.as_slice())
+        || optional_lacks(nodes, &table.base_default_next)
 }
 
-/// Adds the names of the nodes that follow a conditional.
-#[tactic(auto, using(crate::proofs::Laid::append_twice))]
-pub(crate) fn push_conditional_nexts<'a>(
-    names: &mut Vec<&'a str>,
-    conditional: &'a Conditional,
-) -> Result<(), NoMemory>
-    ensures { OnOk result (map (λ x. x.now) names.new.items ≡ map (λ x. x.now) names.old.items ++ conditional_nexts conditional.now) }
+fn any_table_lacks(nodes: &Nodes, tables: &[Table]) -> bool
+    ensures { result ≡ list_any (λ table. name_nothing (node_names nodes.now.pipeline.now) (table_nexts table)) tables.now }
 {
-    push_optional(names, &conditional.true_next)?;
-    push_optional(names, &conditional.false_next)
+    tables.iter().any(|table| table_lacks(nodes, table))
 }
 
-fn push_of_tables<'a>(names: &mut Vec<&'a str>, tables: &'a [Table]) -> Result<(), NoMemory>
-    ensures { OnOk result (map (λ x. x.now) names.new.items ≡ map (λ x. x.now) names.old.items ++ flat_map table_nexts tables.now) }
+#[tactic(auto, using(crate::proofs::Nothing::of_both))]
+fn conditional_lacks(nodes: &Nodes, conditional: &Conditional) -> bool
+    ensures { result ≡ name_nothing (node_names nodes.now.pipeline.now) (conditional_nexts conditional.now) }
 {
-    for table in tables {
-        push_table_nexts(names, table)?;
-    }
-    Ok(())
+    optional_lacks(nodes, &conditional.true_next) || optional_lacks(nodes, &conditional.false_next)
 }
 
-fn push_of_conditionals<'a>(
-    names: &mut Vec<&'a str>,
-    conditionals: &'a [Conditional],
-) -> Result<(), NoMemory>
-    ensures { OnOk result (map (λ x. x.now) names.new.items ≡ map (λ x. x.now) names.old.items ++ flat_map conditional_nexts conditionals.now) }
+fn any_conditional_lacks(nodes: &Nodes, conditionals: &[Conditional]) -> bool
+    ensures { result ≡ list_any (λ x. name_nothing (node_names nodes.now.pipeline.now) (conditional_nexts x)) conditionals.now }
 {
-    for conditional in conditionals {
-        push_conditional_nexts(names, conditional)?;
-    }
-    Ok(())
+    conditionals
+        .iter()
+        .any(|conditional| conditional_lacks(nodes, conditional))
 }
 
-fn push_calculations<'a>(
-    names: &mut Vec<&'a str>,
-    checksums: &'a [Checksum],
-) -> Result<(), NoMemory>
-    ensures { OnOk result (map (λ x. x.now) names.new.items ≡ map (λ x. x.now) names.old.items ++ map (λ x. x.calculation) checksums.now) }
+// Whether one of all names of nodes in a pipeline is that of none.
+#[tactic(auto, using(crate::proofs::Nothing::of_pipeline))]
+fn pipeline_lacks(nodes: &Nodes) -> bool
+    ensures { result ≡ name_nothing (node_names nodes.now.pipeline.now) (nexts nodes.now.pipeline.now) }
 {
-    for checksum in checksums {
-        names.push(checksum.calculation.as_str())?;
-    }
-    Ok(())
-}
-
-fn nexts<'a>(alloc: Global, pipeline: &'a Pipeline) -> Result<Vec<&'a str>, NoMemory>
-    ensures { IfOk result (λ names. map (λ x. x.now) names.items ≡ nexts pipeline.now) }
-{
-    let mut names = Vec::new(alloc);
-    push_optional(&mut names, &pipeline.init_table)?;
-    push_of_tables(&mut names, pipeline.tables.as_slice())?;
-    push_of_conditionals(&mut names, pipeline.conditionals.as_slice())?;
-    Ok(names)
-}
-
-fn node_names<'a>(alloc: Global, pipeline: &'a Pipeline) -> Result<Vec<&'a str>, NoMemory>
-    ensures { IfOk result (λ names. map (λ x. x.now) names.items ≡ node_names pipeline.now) }
-{
-    let mut names = Vec::new(alloc);
-    names::push_names(&mut names, pipeline.tables.as_slice())?;
-    names::push_names(&mut names, pipeline.conditionals.as_slice())?;
-    Ok(names)
+    let pipeline = nodes.pipeline;
+    optional_lacks(nodes, &pipeline.init_table)
+        || any_table_lacks(nodes, pipeline.tables.as_slice())
+        || any_conditional_lacks(nodes, pipeline.conditionals.as_slice())
 }
 
 fn node_names_nothing(alloc: Global, pipeline: &Pipeline) -> Result<bool, NoMemory>
     ensures { IfOk result (λ answer. answer ≡ name_nothing (node_names pipeline.now) (nexts pipeline.now)) }
 {
-    let nodes = node_names(alloc, pipeline)?;
-    let nexts = nexts(alloc, pipeline)?;
-    names::name_nothing(alloc, nodes.as_slice(), nexts.as_slice())
+    let nodes = Nodes::of(alloc, pipeline)?;
+    Ok(pipeline_lacks(&nodes))
 }
 
+fn is_calculation(calculations: &Index<Calculation>, name: &Name) -> bool
+    ensures { result ≡ is_some (named (λ x. x.name) name.now calculations.now) }
+{
+    calculations.named(name).is_some()
+}
+
+fn any_checksum_lacks(calculations: &Index<Calculation>, checksums: &[Checksum]) -> bool
+    ensures { result ≡ list_any (λ x. not (is_some (named (λ c. c.name) x.calculation calculations.now))) checksums.now }
+{
+    checksums.iter().any(|checksum| !is_calculation(calculations, &checksum.calculation))
+}
+
+#[tactic(auto, using(crate::proofs::Nothing::of_named))]
 fn calculation_names_nothing(alloc: Global, raw: &RawProgram) -> Result<bool, NoMemory>
     ensures { IfOk result (λ answer. answer ≡ name_nothing (map (λ x. x.name) raw.now.calculations) (map (λ x. x.calculation) raw.now.checksums)) }
 {
-    let mut calculations = Vec::new(alloc);
-    names::push_names(&mut calculations, raw.calculations.as_slice())?;
-    let mut used = Vec::new(alloc);
-    push_calculations(&mut used, raw.checksums.as_slice())?;
-    names::name_nothing(alloc, calculations.as_slice(), used.as_slice())
+    let calculations = Index::of(alloc, raw.calculations.as_slice())?;
+    Ok(any_checksum_lacks(&calculations, raw.checksums.as_slice()))
 }
 
 /// Whether a name of a calculation or of a node stands for nothing.

@@ -5,7 +5,7 @@ ghost use Rattle.bm_rules.specs.Names.{named};
 ghost use Rattle.bm_rules.specs.Fields.{has_header, header_named, is_readable, is_part};
 ghost use Rattle.bm_rules.specs.References.{is_known, have_one_type, are_of_one_type, has_counter, has_list_id, has_list, primitive_known, action_known, parser_op_known, next_state_known, state_known, input_known, condition_known, checksum_known, action_by_id, has_name, has_data, pairs_known, default_known, profile_known, table_known, selector_known, headers_known, packets_known, pipeline_known, references_known};
 
-use crate::scope::Scope;
+use crate::scope::{Scope, Standing, all_stand};
 use crate::{fields, names, nexts};
 use bm_records::raw::{
     Action, ActionProfile, Calculation, CalculationInput, Checksum, Conditional, DefaultEntry,
@@ -111,44 +111,34 @@ fn primitives_known(scope: &Scope, args: usize, primitives: &[Primitive]) -> boo
         .all(|primitive| primitive_known(scope, args, primitive))
 }
 
-fn action_known(scope: &Scope, action: &Action) -> bool
-    ensures { result ≡ action_known scope.now.raw.now action.now }
-{
-    primitives_known(
-        scope,
-        action.runtime_data.len(),
-        action.primitives.as_slice(),
-    )
-}
+impl<'a> Standing for Action<'a> {
+    ghost meaning = { action_known };
 
-fn actions_known(scope: &Scope, actions: &[Action]) -> bool
-    ensures { result ≡ list_all (action_known scope.now.raw.now) actions.now }
-{
-    actions.iter().all(|action| action_known(scope, action))
-}
-
-fn parser_op_known(scope: &Scope, op: &ParserOp) -> bool
-    ensures { result ≡ parser_op_known scope.now.raw.now op.now }
-{
-    match op {
-        ParserOp::Extract(header) => fields::is_header(scope, header),
-        ParserOp::Set { target, value } => {
-            fields::is_target(scope, target) && is_known(scope, 0, value)
-        }
-        _ => true,
+    fn stands(&self, scope: &Scope) -> bool {
+        primitives_known(scope, self.runtime_data.len(), self.primitives.as_slice())
     }
 }
 
-fn ops_known(scope: &Scope, ops: &[ParserOp]) -> bool
-    ensures { result ≡ list_all (parser_op_known scope.now.raw.now) ops.now }
-{
-    ops.iter().all(|op| parser_op_known(scope, op))
+impl<'a> Standing for ParserOp<'a> {
+    ghost meaning = { parser_op_known };
+
+    fn stands(&self, scope: &Scope) -> bool {
+        match self {
+            ParserOp::Extract(header) => fields::is_header(scope, header),
+            ParserOp::Set { target, value } => {
+                fields::is_target(scope, target) && is_known(scope, 0, value)
+            }
+            _ => true,
+        }
+    }
 }
 
-fn are_read(scope: &Scope, names: &[RawField]) -> bool
-    ensures { result ≡ list_all (is_part (is_readable scope.now.raw.now)) names.now }
-{
-    names.iter().all(|name| fields::is_read(scope, name))
+impl<'a> Standing for RawField<'a> {
+    ghost meaning = { λ raw name. is_part (is_readable raw) name };
+
+    fn stands(&self, scope: &Scope) -> bool {
+        fields::is_read(scope, self)
+    }
 }
 
 fn next_state_known(scope: &Scope, name: &Option<Name>) -> bool
@@ -162,47 +152,41 @@ fn next_state_known(scope: &Scope, name: &Option<Name>) -> bool
     }
 }
 
-fn transitions_known(scope: &Scope, transitions: &[Transition]) -> bool
-    ensures { result ≡ list_all (λ x. next_state_known scope.now.raw.now x.next_state) transitions.now }
-{
-    transitions.iter().all(|transition| next_state_known(scope, &transition.next_state))
-}
+impl<'a> Standing for Transition<'a> {
+    ghost meaning = { λ raw x. next_state_known raw x.next_state };
 
-fn state_known(scope: &Scope, state: &ParseState) -> bool
-    ensures { result ≡ state_known scope.now.raw.now state.now }
-{
-    ops_known(scope, state.parser_ops.as_slice())
-        && are_read(scope, state.transition_key.as_slice())
-        && transitions_known(scope, state.transitions.as_slice())
-}
-
-fn states_known(scope: &Scope, states: &[ParseState]) -> bool
-    ensures { result ≡ list_all (state_known scope.now.raw.now) states.now }
-{
-    states.iter().all(|state| state_known(scope, state))
-}
-
-fn input_known(scope: &Scope, input: &CalculationInput) -> bool
-    ensures { result ≡ input_known scope.now.raw.now input.now }
-{
-    match input {
-        CalculationInput::Field(name) => fields::is_readable(scope, name),
-        _ => true,
+    fn stands(&self, scope: &Scope) -> bool {
+        next_state_known(scope, &self.next_state)
     }
 }
 
-fn inputs_known(scope: &Scope, inputs: &[CalculationInput]) -> bool
-    ensures { result ≡ list_all (input_known scope.now.raw.now) inputs.now }
-{
-    inputs.iter().all(|input| input_known(scope, input))
+impl<'a> Standing for ParseState<'a> {
+    ghost meaning = { state_known };
+
+    fn stands(&self, scope: &Scope) -> bool {
+        all_stand(scope, self.parser_ops.as_slice())
+            && all_stand(scope, self.transition_key.as_slice())
+            && all_stand(scope, self.transitions.as_slice())
+    }
 }
 
-fn calculations_known(scope: &Scope, calculations: &[Calculation]) -> bool
-    ensures { result ≡ list_all (λ x. list_all (input_known scope.now.raw.now) x.input) calculations.now }
-{
-    calculations
-        .iter()
-        .all(|x| inputs_known(scope, x.input.as_slice()))
+impl<'a> Standing for CalculationInput<'a> {
+    ghost meaning = { input_known };
+
+    fn stands(&self, scope: &Scope) -> bool {
+        match self {
+            CalculationInput::Field(name) => fields::is_readable(scope, name),
+            _ => true,
+        }
+    }
+}
+
+impl<'a> Standing for Calculation<'a> {
+    ghost meaning = { λ raw x. list_all (input_known raw) x.input };
+
+    fn stands(&self, scope: &Scope) -> bool {
+        all_stand(scope, self.input.as_slice())
+    }
 }
 
 fn condition_known(scope: &Scope, condition: &Option<Expression>) -> bool
@@ -214,26 +198,20 @@ fn condition_known(scope: &Scope, condition: &Option<Expression>) -> bool
     }
 }
 
-fn checksum_known(scope: &Scope, checksum: &Checksum) -> bool
-    ensures { result ≡ checksum_known scope.now.raw.now checksum.now }
-{
-    fields::is_writable(scope, &checksum.target) && condition_known(scope, &checksum.if_cond)
+impl<'a> Standing for Checksum<'a> {
+    ghost meaning = { checksum_known };
+
+    fn stands(&self, scope: &Scope) -> bool {
+        fields::is_writable(scope, &self.target) && condition_known(scope, &self.if_cond)
+    }
 }
 
-fn checksums_known(scope: &Scope, checksums: &[Checksum]) -> bool
-    ensures { result ≡ list_all (checksum_known scope.now.raw.now) checksums.now }
-{
-    checksums
-        .iter()
-        .all(|checksum| checksum_known(scope, checksum))
-}
+impl<'a> Standing for LearnList<'a> {
+    ghost meaning = { λ raw x. list_all (is_part (is_readable raw)) x.elements };
 
-fn lists_known(scope: &Scope, lists: &[LearnList]) -> bool
-    ensures { result ≡ list_all (λ x. list_all (is_part (is_readable scope.now.raw.now)) x.elements) lists.now }
-{
-    lists
-        .iter()
-        .all(|list| are_read(scope, list.elements.as_slice()))
+    fn stands(&self, scope: &Scope) -> bool {
+        all_stand(scope, self.elements.as_slice())
+    }
 }
 
 /// The action of an id.
@@ -286,27 +264,24 @@ fn profile_known(raw: &RawProgram, name: &Option<Name>) -> bool
     }
 }
 
-fn keys_known(scope: &Scope, keys: &[KeyField]) -> bool
-    ensures { result ≡ list_all (λ key. is_readable scope.now.raw.now key.target) keys.now }
-{
-    keys.iter()
-        .all(|key| fields::is_readable(scope, &key.target))
+impl<'a> Standing for KeyField<'a> {
+    ghost meaning = { λ raw key. is_readable raw key.target };
+
+    fn stands(&self, scope: &Scope) -> bool {
+        fields::is_readable(scope, &self.target)
+    }
 }
 
-fn table_known(scope: &Scope, table: &Table) -> bool
-    ensures { result ≡ table_known scope.now.raw.now table.now }
-{
-    let raw = scope.raw;
-    keys_known(scope, table.key.as_slice())
-        && pairs_known(raw, table.action_ids.as_slice(), table.actions.as_slice())
-        && profile_known(raw, &table.action_profile)
-        && default_known(raw, &table.default_entry)
-}
+impl<'a> Standing for Table<'a> {
+    ghost meaning = { table_known };
 
-fn tables_known(scope: &Scope, tables: &[Table]) -> bool
-    ensures { result ≡ list_all (table_known scope.now.raw.now) tables.now }
-{
-    tables.iter().all(|table| table_known(scope, table))
+    fn stands(&self, scope: &Scope) -> bool {
+        let raw = scope.raw;
+        all_stand(scope, self.key.as_slice())
+            && pairs_known(raw, self.action_ids.as_slice(), self.actions.as_slice())
+            && profile_known(raw, &self.action_profile)
+            && default_known(raw, &self.default_entry)
+    }
 }
 
 fn selector_known(scope: &Scope, selector: &Option<Selector>) -> bool
@@ -314,72 +289,67 @@ fn selector_known(scope: &Scope, selector: &Option<Selector>) -> bool
 {
     match selector {
         None => true,
-        Some(selector) => are_read(scope, selector.input.as_slice()),
+        Some(selector) => all_stand(scope, selector.input.as_slice()),
     }
 }
 
-fn profiles_known(scope: &Scope, profiles: &[ActionProfile]) -> bool
-    ensures { result ≡ list_all (λ x. selector_known scope.now.raw.now x.selector) profiles.now }
-{
-    profiles.iter().all(|x| selector_known(scope, &x.selector))
+impl<'a> Standing for ActionProfile<'a> {
+    ghost meaning = { λ raw x. selector_known raw x.selector };
+
+    fn stands(&self, scope: &Scope) -> bool {
+        selector_known(scope, &self.selector)
+    }
 }
 
-fn conditionals_known(scope: &Scope, conditionals: &[Conditional]) -> bool
-    ensures { result ≡ list_all (λ x. is_known scope.now.raw.now 0 x.expression) conditionals.now }
-{
-    conditionals
-        .iter()
-        .all(|x| is_known(scope, 0, &x.expression))
+impl<'a> Standing for Conditional<'a> {
+    ghost meaning = { λ raw x. is_known raw 0 x.expression };
+
+    fn stands(&self, scope: &Scope) -> bool {
+        is_known(scope, 0, &self.expression)
+    }
 }
 
 fn pipeline_known(scope: &Scope, pipeline: &Pipeline) -> bool
     ensures { result ≡ pipeline_known scope.now.raw.now pipeline.now }
 {
-    tables_known(scope, pipeline.tables.as_slice())
-        && profiles_known(scope, pipeline.action_profiles.as_slice())
-        && conditionals_known(scope, pipeline.conditionals.as_slice())
+    all_stand(scope, pipeline.tables.as_slice())
+        && all_stand(scope, pipeline.action_profiles.as_slice())
+        && all_stand(scope, pipeline.conditionals.as_slice())
 }
 
-fn type_known(scope: &Scope, header: &Header) -> bool
-    ensures { result ≡ is_some (named (λ x. x.name) header.now.header_type scope.now.raw.now.header_types) }
-{
-    names::named(
-        scope.raw.header_types.as_slice(),
-        header.header_type.as_str(),
-    )
-    .is_some()
+impl<'a> Standing for Header<'a> {
+    ghost meaning = { λ raw header. is_some (named (λ x. x.name) header.header_type raw.header_types) };
+
+    fn stands(&self, scope: &Scope) -> bool {
+        names::named(scope.raw.header_types.as_slice(), self.header_type.as_str()).is_some()
+    }
 }
 
-fn types_known(scope: &Scope, headers: &[Header]) -> bool
-    ensures { result ≡ list_all (λ header. is_some (named (λ x. x.name) header.header_type scope.now.raw.now.header_types)) headers.now }
-{
-    headers.iter().all(|header| type_known(scope, header))
-}
+// A name in the order of the deparser, which stands for a header.
+impl<'a> Standing for Name<'a> {
+    ghost meaning = { has_header };
 
-fn order_known(scope: &Scope, order: &[Name]) -> bool
-    ensures { result ≡ list_all (has_header scope.now.raw.now) order.now }
-{
-    order
-        .iter()
-        .all(|name| fields::has_header(scope, name.as_str()))
+    fn stands(&self, scope: &Scope) -> bool {
+        fields::has_header(scope, self.as_str())
+    }
 }
 
 fn headers_known(scope: &Scope) -> bool
     ensures { result ≡ headers_known scope.now.raw.now }
 {
     let parser = &scope.raw.parser;
-    types_known(scope, scope.raw.headers.as_slice())
-        && order_known(scope, scope.raw.deparser.order.as_slice())
+    all_stand(scope, scope.raw.headers.as_slice())
+        && all_stand(scope, scope.raw.deparser.order.as_slice())
         && names::named(parser.parse_states.as_slice(), parser.init_state.as_str()).is_some()
 }
 
 fn packets_known(scope: &Scope) -> bool
     ensures { result ≡ packets_known scope.now.raw.now }
 {
-    states_known(scope, scope.raw.parser.parse_states.as_slice())
-        && calculations_known(scope, scope.raw.calculations.as_slice())
-        && checksums_known(scope, scope.raw.checksums.as_slice())
-        && lists_known(scope, scope.raw.learn_lists.as_slice())
+    all_stand(scope, scope.raw.parser.parse_states.as_slice())
+        && all_stand(scope, scope.raw.calculations.as_slice())
+        && all_stand(scope, scope.raw.checksums.as_slice())
+        && all_stand(scope, scope.raw.learn_lists.as_slice())
 }
 
 /// Whether each name and each id stands for what there is.
@@ -389,7 +359,7 @@ pub(crate) fn references_known(alloc: Global, scope: &Scope) -> Result<bool, NoM
     let raw = scope.raw;
     if !headers_known(scope)
         || !packets_known(scope)
-        || !actions_known(scope, raw.actions.as_slice())
+        || !all_stand(scope, raw.actions.as_slice())
         || !pipeline_known(scope, &raw.pipelines.ingress)
         || !pipeline_known(scope, &raw.pipelines.egress)
     {

@@ -27,13 +27,13 @@ fn later_flaw(alloc: Global, scope: &Scope, info: &Info) -> Result<Option<u8>, N
     if !agreement::references_agree(alloc, raw, info)? {
         return Ok(Some(11));
     }
-    if !agreement::profiles_agree(raw, info) {
+    if !agreement::profiles_agree(scope, info) {
         return Ok(Some(12));
     }
-    if !agreement::counters_agree(raw, info) {
+    if !agreement::counters_agree(scope, info) {
         return Ok(Some(13));
     }
-    if !agreement::digests_agree(raw, info) {
+    if !agreement::digests_agree(scope, info) {
         return Ok(Some(14));
     }
     if !agreement::has_egress_spec(scope) {

@@ -1,10 +1,10 @@
 //! The references between objects of a P4Info.
-ghost use Rattle.std.specs.Prelude.{◌≡◌, ◌==◌, ◌++◌, [], ◌∷◌, if◌then◌else◌, Some, IfSome, OnOk, map, nat_eq};
+ghost use Rattle.std.specs.Prelude.{◌≡◌, ◌==◌, [], ◌∷◌, if◌then◌else◌, Some, IfSome, map, nat_eq};
 ghost use Rattle.std.specs.List.{list_any};
 ghost use Rattle.wire_messages.specs.Answers.{ReadsInMemory};
 ghost use Rattle.p4v1_read.specs.P4Infos.{p4info_of, table_of, action_profile_of, direct_counter_of, action_ref_of};
 ghost use Rattle.p4info_model.specs.Objects.{id_of};
-ghost use Rattle.p4info_model.specs.Rules.{breaks_i5, lacks_some, lacks_default, differ, same_pair, action_uses, profiles_of_tables, profile_tables, tables_of_profiles, table_counters, counters_of_tables, tables_of_counters};
+ghost use Rattle.p4info_model.specs.Rules.{breaks_i5, lacks_some, lacks_default, differ, same_pair, action_uses, profiles_of_tables, tables_of_profiles, counters_of_tables, tables_of_counters};
 
 use crate::asking::{Question, any};
 use crate::gathering::{Gift, gather};
