@@ -13,10 +13,11 @@ each list the item for which most memory was held; at most 12 times the bytes ar
 which is printed first.
 
 Last it does the same with P4Infos of some 1 MiB: objects and parts of two bytes, numbers of one byte, objects with an id or with an id and a name,
-and annotations without a character.
+annotations without a character or with one, references, parts with an id or an id and a name, and fields that are not known.
 
 Of each time the least of three runs counts. Times and memory are of this machine.
 """
+import itertools
 import json
 import os
 import sys
@@ -29,18 +30,33 @@ from stages import router
 LONGEST = 4 * 2**20
 
 
+def with_items(program, beginning, items):
+    """The program with these items at the beginning of a list or of an object's members."""
+    place = program.index(beginning) + len(beginning)
+    comma = b"" if program[place : place + 1] in (b"]", b"}") else b","
+    return program[:place] + items + comma + program[place:]
+
+
 def filled(program, beginning, item, size):
     """The program with items at the beginning of a list, so many that it has nearly so many bytes."""
-    place = program.index(beginning) + len(beginning)
     room = size - len(program)
     items, length = [], 0
     while True:
-        next_item = item(len(items)) + b","
-        if length + len(next_item) > room:
+        next_item = item(len(items))
+        if length + len(next_item) + 1 > room:
             break
         items.append(next_item)
-        length += len(next_item)
-    return program[:place] + b"".join(items) + program[place:]
+        length += len(next_item) + 1
+    return with_items(program, beginning, b",".join(items))
+
+
+def repeated(program, beginning, item, size, names=(b"",)):
+    """The same with one item over and over, or one with each of these names in turn."""
+    count = (size - len(program)) // (len(item.replace(b"%s", names[0])) + 1)
+    if b"%s" not in item:
+        return with_items(program, beginning, (item + b",") * (count - 1) + item)
+    front, back = item.split(b"%s")
+    return with_items(program, beginning, front + (back + b"," + front).join(names[:count]) + back)
 
 
 def transition(i):
@@ -93,29 +109,43 @@ def configs(info, program, size):
     yield "actions and references", *with_actions(info, program, size)
 
 
-LISTS = ("header_types", "headers", "fields", "parse_states", "transitions", "order", "errors", "actions", "primitives", "action_ids", "key", "input")
+LISTS = ("header_types", "headers", "fields", "parsers", "parse_states", "parser_ops", "parameters", "transition_key", "transitions", "order", "errors", "actions",
+         "runtime_data", "primitives", "value", "pipelines", "tables", "action_ids", "key", "target", "action_profiles", "conditionals", "calculations", "input",
+         "checksums", "counter_arrays", "learn_lists", "meter_arrays", "register_arrays", "field_lists", "enums", "extern_instances", "force_arith")
 SHORT = (b"0", b"null", b"true", b'""', b"[]", b"{}", b"[[0]]", b'{"a":1}', b'["",0]', b'["",8]', b'["a",8]', b'{"op":"","parameters":[]}',
-         b'{"name":"","fields":[]}', b'{"type":"default","next_state":null}')
+         b'{"name":"","fields":[]}', b'{"type":"default","next_state":null}', b'"\\u0041"', b'1e9', b'{"name":"","bitwidth":8}', b'{"type":"bool","value":true}',
+         b'{"type":"hexstr","value":"0x1"}', b'{"type":"field","value":["",""]}', b'{"op":"extract","parameters":[]}', b'{"match_type":"exact","target":["",""]}',
+         b'{"name":"","header_type":""}', b'{"name":"","primitives":[],"runtime_data":[]}', b'{"name":"","size":1,"is_direct":false}')
 NAMED = (b'"%s"', b'["%s",8]', b'["%s",0]', b'{"%s":0}', b'{"op":"%s","parameters":[]}', b'{"name":"%s","fields":[]}')
 LETTERS = bytes(i for i in range(32, 127) if i not in b'"\\')
-
-
-def letters(i):
-    """The text of three letters that has this number."""
-    return bytes(LETTERS[i // len(LETTERS) ** place % len(LETTERS)] for place in range(3))
+NAMES = [bytes(name) for name in itertools.product(LETTERS, repeat=3)]
 
 
 def short(program):
     """The name of each list, an item, and a program in which the list has the item over and over, or with another name each time."""
     for name in LISTS:
         place = b'"%s":[' % name.encode()
+        if place not in program:
+            program = program.replace(b"{", b"{" + place + b"],", 1)
         for item in SHORT:
-            yield name, item, filled(program, place, lambda _: item, LONGEST)
+            yield name, item, repeated(program, place, item, LONGEST)
         for item in NAMED:
-            yield name, item, filled(program, place, lambda i: item % letters(i), LONGEST)
-    for value in (b"null", b'""', b"0"):
-        item = b'"%s":' + value
-        yield "next_tables", item, filled(program, b'"next_tables":{', lambda i: item % letters(i), LONGEST)
+            yield name, item, repeated(program, place, item, LONGEST, NAMES)
+    for name in ("next_tables", "default_entry", "expression"):
+        for value in (b"null", b'""', b"0", b"[]", b"{}"):
+            item = b'"%s":' + value
+            yield name, item, repeated(program, b'"%s":{' % name.encode(), item, LONGEST, NAMES)
+    room = LONGEST - len(program)
+    yield "an expression", b"a tree of sums", program.replace(b'"expression":{', b'"expression":' + sums(room) + b',"unread":{', 1)
+    yield "a name", b"escapes of one letter", program.replace(b'"name":"', b'"name":"' + b"\\u0041" * (room // 6), 1)
+
+
+def sums(room):
+    """The text of an expression of at most so many bytes, in which each side of a sum is a sum, down to single numbers."""
+    text = b'{"type":"hexstr","value":"0x1"}'
+    while 2 * len(text) + 64 < room:
+        text = b'{"type":"expression","value":{"op":"+","left":%s,"right":%s}}' % (text, text)
+    return text
 
 
 OBJECTS = {"tables": 2, "actions": 3, "action profiles": 4, "counters": 5, "direct counters": 6, "controller headers": 9, "digests": 12}
@@ -134,7 +164,7 @@ def varint(number):
 
 def preamble(kind, number, more=b""):
     """A preamble with an id of this kind and a name."""
-    return long_field(1, b"\x08" + varint(HIGH[kind] * 2**24 + number) + long_field(2, letters(number)) + more)
+    return long_field(1, b"\x08" + varint(HIGH[kind] * 2**24 + number) + long_field(2, NAMES[number]) + more)
 
 
 def infos():
@@ -152,7 +182,16 @@ def infos():
         yield name + " with an id", b"".join(ids)
         named = (long_field(kind, preamble(kind, i + 1)) for i in range(size // 16))
         yield name + " with an id and a name", b"".join(named)
-    yield "annotations", long_field(3, preamble(3, 1, long_field(4, b"") * (size // 2)))
+    for name, text in (("", b""), (" of a letter", b"a")):
+        one = long_field(4, text)
+        yield "annotations" + name, long_field(3, preamble(3, 1, one * (size // len(one))))
+    for name, one in (("references with an id", long_field(3, b"\x08\x01")), ("match fields with an id", long_field(2, b"\x08\x01"))):
+        yield name, long_field(2, preamble(2, 1) + one * (size // len(one)))
+    for name, kind in (("parameters", 3), ("metadata", 9)):
+        one = [long_field(2, b"\x08" + varint(i + 1) + long_field(2, NAMES[i]) + b"\x20\x08") for i in range(size // 16)]
+        yield name + " with an id and a name", long_field(kind, preamble(kind, 1) + b"".join(one))
+    yield "fields that are not known", long_field(3, preamble(3, 1) + b"\x78\x01" * (size // 2))
+    yield "digests' types", b"".join(long_field(12, long_field(1, b"\x08" + varint(i + 1)) + long_field(2, b"")) for i in range(size // 10))
 
 
 def judged(program, config):
