@@ -12,7 +12,7 @@ use std::alloc::Global;
 use std::collections::VecDeque;
 use std::sync::Wait;
 use std::test::Fail;
-use sw_edge::{ListClock, MemoryLink, MemoryPorts};
+use sw_edge::{Departure, ListClock, MemoryLink, MemoryPorts};
 
 // A client that asks for the capabilities, and the server's answer, whose version is 1.3.0.
 const CLIENT: &str =
@@ -32,6 +32,22 @@ const GREETING: &str = "000006040000000000000300000064000000040100000000";
 const CLOSING: &str =
     "00003b01050000000100073a73746174757303323030000c636f6e74656e742d74797065106170706c69636174696f6e2f67727063000b677270632d7374617475730138";
 
+// The link and the ports of a test.
+struct Edges {
+    link: MemoryLink,
+    ports: MemoryPorts,
+}
+
+// Written out, so that the tests need not look into it.
+impl Drop for Edges {
+    fn drop(self) {
+        let Self {
+            link: _link,
+            ports: _ports,
+        } = self;
+    }
+}
+
 // A link that gives these bytes, of whose calls some fail.
 fn link_of(alloc: Global, hex: &str, piece: usize, failing: Vec<u64>) -> Result<MemoryLink, Fail>
     requires { 0 < piece }
@@ -45,6 +61,21 @@ fn ports_of(alloc: Global, failing: Vec<u64>) -> Result<MemoryPorts, Fail> {
     Ok(MemoryPorts::new(alloc, Vec::new(alloc), 2, failing, Vec::new(alloc))?)
 }
 
+// A link that gives these bytes, and ports. Some calls of the link fail, and some puts.
+fn edges_of(
+    alloc: Global,
+    hex: &str,
+    piece: usize,
+    calls: Vec<u64>,
+    puts: Vec<u64>,
+) -> Result<Edges, Fail>
+    requires { 0 < piece }
+{
+    let link = link_of(alloc, hex, piece, calls)?;
+    let ports = ports_of(alloc, puts)?;
+    Ok(Edges { link, ports })
+}
+
 fn output_of(alloc: Global, port: u16, bytes: &[u8]) -> Result<Next, Fail> {
     let bytes = ByteList::from_vec(Vec::from_slice(alloc, bytes)?);
     Ok(Next::Output(Output { port, bytes }))
@@ -54,20 +85,26 @@ fn output_of(alloc: Global, port: u16, bytes: &[u8]) -> Result<Next, Fail> {
 fn served<D: Desk, W: Wait>(
     rt: &W,
     alloc: Global,
-    link: &mut MemoryLink,
-    ports: &mut MemoryPorts,
+    edges: &mut Edges,
     desk: &D,
     pass: &mut D::Pass,
 ) -> LinkEnd
     requires { D.is_of desk.now pass.old }
 {
     let mut clock = ListClock::new(Vec::new(alloc));
-    serve_link(rt, alloc, link, ports, desk, pass, &mut clock)
+    serve_link(
+        rt,
+        alloc,
+        &mut edges.link,
+        &mut edges.ports,
+        desk,
+        pass,
+        &mut clock,
+    )
 }
 
-#[test]
-fn capabilities(rt: HostRuntime) -> Result<(), Fail> {
-    let alloc = rt.alloc();
+// A pass whose one reply is the server's version.
+fn pass_of_version(alloc: Global) -> Result<ListPass, Fail> {
     let mut messages = List::new(alloc);
     messages.push(ByteList::from_vec(hex::decode(alloc, VERSION)?))?;
     let mut replies = VecDeque::new(alloc);
@@ -78,72 +115,91 @@ fn capabilities(rt: HostRuntime) -> Result<(), Fail> {
         steps: 0,
         packet: None,
     })?;
-    let mut pass = ListPass::new(3, replies, VecDeque::new(alloc));
-    let mut link = link_of(alloc, CLIENT, 7, Vec::new(alloc))?;
-    let mut ports = ports_of(alloc, Vec::new(alloc))?;
-    let end = served(&rt, alloc, &mut link, &mut ports, &ListDesk, &mut pass);
-    assert!(rt; matches!(end, LinkEnd::Closed));
+    Ok(ListPass::new(3, replies, VecDeque::new(alloc)))
+}
+
+#[test]
+fn capabilities(rt: HostRuntime) -> Result<(), Fail> {
+    let alloc = rt.alloc();
     let server = hex::decode(alloc, SERVER)?;
-    assert!(rt; link.sent() == server.as_slice());
+    let mut edges = edges_of(alloc, CLIENT, 7, Vec::new(alloc), Vec::new(alloc))?;
+    let mut pass = pass_of_version(alloc)?;
+    let end = served(&rt, alloc, &mut edges, &ListDesk, &mut pass);
+    assert!(rt; matches!(end, LinkEnd::Closed));
+    assert!(rt; edges.link.sent() == server.as_slice());
     assert!(rt; pass.replies_left() == 0);
+    drop(pass);
     Ok(())
+}
+
+// A pass with two packets for ports.
+fn pass_of_outputs(alloc: Global) -> Result<ListPass, Fail> {
+    let mut nexts = VecDeque::new(alloc);
+    nexts.push_back(output_of(alloc, 1, &[1, 2])?)?;
+    nexts.push_back(output_of(alloc, 2, &[3])?)?;
+    Ok(ListPass::new(3, VecDeque::new(alloc), nexts))
+}
+
+fn is_one_packet(sent: &[Departure], port: u16, bytes: &[u8]) -> bool {
+    match sent {
+        [departure] => departure.port() == port && departure.bytes() == bytes,
+        _ => false,
+    }
 }
 
 #[test]
 fn put_that_fails(rt: HostRuntime) -> Result<(), Fail> {
     let alloc = rt.alloc();
-    let mut nexts = VecDeque::new(alloc);
-    nexts.push_back(output_of(alloc, 1, &[1, 2])?)?;
-    nexts.push_back(output_of(alloc, 2, &[3])?)?;
-    let mut pass = ListPass::new(3, VecDeque::new(alloc), nexts);
-    let mut link = link_of(alloc, CHANNEL, 100, Vec::new(alloc))?;
-    let mut ports = ports_of(alloc, [0].to_vec(alloc)?)?;
-    let end = served(&rt, alloc, &mut link, &mut ports, &ListDesk, &mut pass);
+    let mut edges = edges_of(alloc, CHANNEL, 100, Vec::new(alloc), [0].to_vec(alloc)?)?;
+    let mut pass = pass_of_outputs(alloc)?;
+    let end = served(&rt, alloc, &mut edges, &ListDesk, &mut pass);
     assert!(rt; matches!(end, LinkEnd::Closed));
-    let [departure] = ports.sent() else {
-        return Err(Fail::new("not one packet"));
-    };
-    assert!(rt; departure.port() == 2 && departure.bytes() == [3].as_slice());
+    assert!(rt;
+        is_one_packet(edges.ports.sent(), 2, &[3]),
+        "not one packet"
+    );
     assert!(rt; pass.nexts_left() == 0);
+    drop(pass);
     Ok(())
 }
 
 #[test]
 fn pull_that_fails(rt: HostRuntime) -> Result<(), Fail> {
     let alloc = rt.alloc();
-    let mut pass = NotingPass {
-        gifts: VecDeque::new(alloc),
-        calls: 0,
-        leaves: 0,
-    };
-    let mut link = link_of(alloc, CHANNEL, 4096, [3].to_vec(alloc)?)?;
-    let mut ports = ports_of(alloc, Vec::new(alloc))?;
-    let end = served(&rt, alloc, &mut link, &mut ports, &NotingDesk, &mut pass);
-    assert!(rt; matches!(end, LinkEnd::Fault));
     let greeting = hex::decode(alloc, GREETING)?;
-    assert!(rt; link.sent() == greeting.as_slice());
+    let mut edges = edges_of(alloc, CHANNEL, 4096, [3].to_vec(alloc)?, Vec::new(alloc))?;
+    let mut pass = NotingPass::new(VecDeque::new(alloc));
+    let end = served(&rt, alloc, &mut edges, &NotingDesk, &mut pass);
+    assert!(rt; matches!(end, LinkEnd::Fault));
+    assert!(rt; edges.link.sent() == greeting.as_slice());
     assert!(rt; pass.calls == 1 && pass.leaves == 1);
     Ok(())
+}
+
+// What a server sends that closes the channel for room.
+fn greeting_and_closing(alloc: Global) -> Result<Vec<u8>, Fail> {
+    let mut sent = hex::decode(alloc, GREETING)?;
+    sent.extend_from_slice(hex::decode(alloc, CLOSING)?.as_slice())?;
+    Ok(sent)
+}
+
+// A pass that gives nothing, and then an overflow.
+fn pass_of_overflow(alloc: Global) -> Result<NotingPass, Fail> {
+    let mut gifts = VecDeque::new(alloc);
+    gifts.push_back(None)?;
+    gifts.push_back(Some(Next::Overflow))?;
+    Ok(NotingPass::new(gifts))
 }
 
 #[test]
 fn overflow(rt: HostRuntime) -> Result<(), Fail> {
     let alloc = rt.alloc();
-    let mut gifts = VecDeque::new(alloc);
-    gifts.push_back(None)?;
-    gifts.push_back(Some(Next::Overflow))?;
-    let mut pass = NotingPass {
-        gifts,
-        calls: 0,
-        leaves: 0,
-    };
-    let mut link = link_of(alloc, CHANNEL, 4096, Vec::new(alloc))?;
-    let mut ports = ports_of(alloc, Vec::new(alloc))?;
-    let end = served(&rt, alloc, &mut link, &mut ports, &NotingDesk, &mut pass);
+    let sent = greeting_and_closing(alloc)?;
+    let mut edges = edges_of(alloc, CHANNEL, 4096, Vec::new(alloc), Vec::new(alloc))?;
+    let mut pass = pass_of_overflow(alloc)?;
+    let end = served(&rt, alloc, &mut edges, &NotingDesk, &mut pass);
     assert!(rt; matches!(end, LinkEnd::Closed));
-    let mut sent = hex::decode(alloc, GREETING)?;
-    sent.extend_from_slice(hex::decode(alloc, CLOSING)?.as_slice())?;
-    assert!(rt; link.sent() == sent.as_slice());
+    assert!(rt; edges.link.sent() == sent.as_slice());
     assert!(rt; pass.calls == 1 && pass.leaves == 1);
     Ok(())
 }

@@ -10,11 +10,31 @@ use std::collections::VecDeque;
 pub(crate) struct NotingDesk;
 
 /// What the desk still gives, and how many calls and how many Leaves there were.
-#[derive(Drop)]
 pub(crate) struct NotingPass {
     pub gifts: VecDeque<Option<Next>>,
     pub calls: u64,
     pub leaves: u64,
+}
+
+// Written out, so that the tests need not look into it.
+impl Drop for NotingPass {
+    fn drop(self) {
+        let Self {
+            gifts: _gifts,
+            calls: _,
+            leaves: _,
+        } = self;
+    }
+}
+
+impl NotingPass {
+    pub(crate) fn new(gifts: VecDeque<Option<Next>>) -> NotingPass {
+        NotingPass {
+            gifts,
+            calls: 0,
+            leaves: 0,
+        }
+    }
 }
 
 impl Desk for NotingDesk {
