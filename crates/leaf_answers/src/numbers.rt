@@ -1,8 +1,34 @@
 //! Fields of bits, and byte strings that are numbers.
+ghost use Rattle.std.specs.Prelude.{◌≤◌, ◌<◌, ◌^◌};
+
 use canon_bytes::{ByteFault, read, write};
 use pkt_bits::{put, take};
 use row_lines::{NoAnswer, bytes, say, tell, tell_hex};
 use std::alloc::Global;
+
+// The lowest bits of a number.
+fn lowest(value: u128, width: u32) -> u128
+    requires { width ≤ 128 }
+    ensures { result < 2 ^ width }
+{
+    take(&value.to_be_bytes(), (128 - width) as usize, width)
+}
+
+// The field there, in whose place the number's lowest bits come.
+fn exchanged(packet: &mut [u8], bit: u16, width: u8, value: u128) -> Result<u128, NoAnswer> {
+    let bit = usize::from(bit);
+    let width = u32::from(width);
+    let len = packet.len();
+    if width > 128 || len > 9216 {
+        return Err(NoAnswer);
+    }
+    if bit + width as usize > 8 * len {
+        return Err(NoAnswer);
+    }
+    let field = take(packet, bit, width);
+    put(packet, bit, width, lowest(value, width));
+    Ok(field)
+}
 
 /// Of a bit's number, a width, a number and bytes: the field there, and the bytes with the number's lowest bits in it.
 pub fn bit_field(alloc: Global, asked: &[&str], told: &mut String) -> Result<(), NoAnswer> {
@@ -13,19 +39,7 @@ pub fn bit_field(alloc: Global, asked: &[&str], told: &mut String) -> Result<(),
     let width = width.parse::<u8>()?;
     let value = value.parse::<u128>()?;
     let mut packet = bytes(alloc, hex)?;
-    if packet.len() > 9216 || usize::from(bit) + usize::from(width) > 8 * packet.len() {
-        return Err(NoAnswer);
-    }
-    if width > 128 {
-        return Err(NoAnswer);
-    }
-    let value = take(
-        &value.to_be_bytes(),
-        128 - usize::from(width),
-        u32::from(width),
-    );
-    tell(told, take(&packet, usize::from(bit), u32::from(width)));
-    put(&mut packet, usize::from(bit), u32::from(width), value);
+    tell(told, exchanged(&mut packet, bit, width, value)?);
     tell_hex(alloc, told, &packet);
     Ok(())
 }

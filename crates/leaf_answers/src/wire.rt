@@ -5,24 +5,22 @@ use std::alloc::Global;
 use wire_fields::{Field, Fields, WireFault, Writer};
 use wire_messages::{Message, Unreadable};
 
+fn tell_number(told: &mut String, kind: &str, number: u32, value: u64) {
+    say(told, kind);
+    tell(told, (number, value));
+}
+
 fn tell_field(alloc: Global, told: &mut String, field: Field<'_>) {
     match field {
-        Field::Varint { number, value } => {
-            say(told, "Varint");
-            tell(told, (number, value));
-        }
-        Field::Fixed64 { number, value } => {
-            say(told, "Fixed64");
-            tell(told, (number, value));
-        }
+        Field::Varint { number, value } => tell_number(told, "Varint", number, value),
+        Field::Fixed64 { number, value } => tell_number(told, "Fixed64", number, value),
         Field::Bytes { number, bytes } => {
             say(told, "Bytes");
             tell(told, number);
             tell_hex(alloc, told, bytes);
         }
         Field::Fixed32 { number, value } => {
-            say(told, "Fixed32");
-            tell(told, (number, value));
+            tell_number(told, "Fixed32", number, u64::from(value));
         }
     }
 }
