@@ -6,7 +6,7 @@ use p4_types::messages::{
     MasterArbitrationUpdate, P4Data, PacketOut, ReadResponse, Status, StreamError,
     StreamErrorDetails, StreamMessageResponse, TableEntry, Uint128,
 };
-use p4v1_wire::write_message;
+use p4v1_wire::{Writable, write_message};
 use row_lines::{NoAnswer, bytes, tell_hex};
 use std::alloc::Global;
 
@@ -14,8 +14,17 @@ fn text(alloc: Global, text: &str) -> Result<Text, NoAnswer> {
     Ok(Text::from_string(String::from_str(alloc, text)?))
 }
 
+fn no_text(alloc: Global) -> Text {
+    Text::from_string(String::new(alloc))
+}
+
 fn byte_list(alloc: Global, hex: &str) -> Result<ByteList, NoAnswer> {
     Ok(List::from_vec(bytes(alloc, hex)?))
+}
+
+// The bytes of a message, which is let go of.
+fn spelled<M: Writable + Drop>(alloc: Global, message: M) -> Result<ByteList, NoAnswer> {
+    Ok(write_message(alloc, &message)?)
 }
 
 fn only<T: Drop>(alloc: Global, item: T) -> Result<List<T>, NoAnswer> {
@@ -24,31 +33,22 @@ fn only<T: Drop>(alloc: Global, item: T) -> Result<List<T>, NoAnswer> {
     Ok(list)
 }
 
-fn status_of(
-    alloc: Global,
-    code: i32,
-    message: &str,
-    details: List<Any>,
-) -> Result<Status, NoAnswer> {
-    let message = text(alloc, message)?;
-    Ok(Status {
-        code,
-        message,
-        details,
-    })
-}
-
 // A notice of an arbitration: the election id of the primary, and the code.
 fn notice(alloc: Global, low: &str, code: &str) -> Result<ByteList, NoAnswer> {
-    let status = status_of(alloc, code.parse::<i32>()?, "", List::new(alloc))?;
     let low = low.parse::<u64>()?;
-    let message = StreamMessageResponse::Arbitration(MasterArbitrationUpdate {
+    let code = code.parse::<i32>()?;
+    let status = Status {
+        code,
+        message: no_text(alloc),
+        details: List::new(alloc),
+    };
+    let update = MasterArbitrationUpdate {
         device_id: 1,
         role: None,
         election_id: Uint128 { high: 0, low },
         status: Some(status),
-    });
-    Ok(write_message(alloc, &message)?)
+    };
+    spelled(alloc, StreamMessageResponse::Arbitration(update))
 }
 
 // A refused packet: the code, the rule that it breaks, and its bytes.
@@ -58,45 +58,59 @@ fn refused_packet(
     rule: &str,
     payload: &str,
 ) -> Result<ByteList, NoAnswer> {
+    let canonical_code = code.parse::<i32>()?;
+    let code = rule.parse::<i32>()?;
+    let space = text(alloc, "p4switch")?;
     let packet = PacketOut {
         payload: byte_list(alloc, payload)?,
         metadata: List::new(alloc),
     };
     let error = StreamError {
-        canonical_code: code.parse::<i32>()?,
-        message: text(alloc, "")?,
-        space: text(alloc, "p4switch")?,
-        code: rule.parse::<i32>()?,
+        canonical_code,
+        message: no_text(alloc),
+        space,
+        code,
         details: Some(StreamErrorDetails::PacketOut(packet)),
     };
-    Ok(write_message(alloc, &StreamMessageResponse::Error(error))?)
+    spelled(alloc, StreamMessageResponse::Error(error))
 }
 
 // The error of an update: `code space rule`, or the code alone.
 fn error(alloc: Global, part: &str) -> Result<ByteList, NoAnswer> {
     let mut words = part.split_whitespace();
     let canonical_code = words.next().unwrap_or("").parse::<i32>()?;
-    let space = text(alloc, words.next().unwrap_or(""))?;
+    let space = words.next().unwrap_or("");
+    let code = words.next().unwrap_or("0").parse::<i32>()?;
     let error = Error {
         canonical_code,
-        message: text(alloc, "")?,
-        space,
-        code: words.next().unwrap_or("0").parse::<i32>()?,
+        message: no_text(alloc),
+        space: text(alloc, space)?,
+        code,
         details: List::new(alloc),
     };
-    Ok(write_message(alloc, &error)?)
+    spelled(alloc, error)
+}
+
+fn detail(alloc: Global, part: &str) -> Result<Any, NoAnswer> {
+    let value = error(alloc, part)?;
+    let type_url = text(alloc, "type.googleapis.com/p4.v1.Error")?;
+    Ok(Any { type_url, value })
 }
 
 // A status: the code, the message, and the errors of updates behind it.
 fn status(alloc: Global, code: &str, message: &str, errors: &[&str]) -> Result<ByteList, NoAnswer> {
+    let code = code.parse::<i32>()?;
     let mut details = List::new(alloc);
     for part in errors {
-        let value = error(alloc, part)?;
-        let type_url = text(alloc, "type.googleapis.com/p4.v1.Error")?;
-        details.push(Any { type_url, value })?;
+        details.push(detail(alloc, part)?)?;
     }
-    let status = status_of(alloc, code.parse::<i32>()?, message, details)?;
-    Ok(write_message(alloc, &status)?)
+    let message = text(alloc, message)?;
+    let status = Status {
+        code,
+        message,
+        details,
+    };
+    spelled(alloc, status)
 }
 
 fn cookie(alloc: Global, cookie: &str) -> Result<ByteList, NoAnswer> {
@@ -109,7 +123,7 @@ fn cookie(alloc: Global, cookie: &str) -> Result<ByteList, NoAnswer> {
     let response = GetForwardingPipelineConfigResponse {
         config: Some(config),
     };
-    Ok(write_message(alloc, &response)?)
+    spelled(alloc, response)
 }
 
 fn capabilities(alloc: Global, version: &str) -> Result<ByteList, NoAnswer> {
@@ -117,7 +131,7 @@ fn capabilities(alloc: Global, version: &str) -> Result<ByteList, NoAnswer> {
     let response = CapabilitiesResponse {
         p4runtime_api_version,
     };
-    Ok(write_message(alloc, &response)?)
+    spelled(alloc, response)
 }
 
 // An entry with this match alone.
@@ -140,22 +154,23 @@ fn counted(alloc: Global, table_id: u32, route: FieldMatch) -> Result<TableEntry
 // A direct counter: the table, the prefix of field 1 and its length, the packets and the bytes.
 fn counter(alloc: Global, asked: [&str; 5]) -> Result<ByteList, NoAnswer> {
     let [table, prefix, length, packets, bytes] = asked;
-    let value = byte_list(alloc, prefix)?;
+    let table = table.parse::<u32>()?;
     let prefix_len = length.parse::<i32>()?;
-    let route = FieldMatch {
-        field_id: 1,
-        kind: Some(FieldMatchKind::Lpm { value, prefix_len }),
-    };
     let content = CounterData {
         byte_count: bytes.parse::<i64>()?,
         packet_count: packets.parse::<i64>()?,
     };
+    let value = byte_list(alloc, prefix)?;
+    let route = FieldMatch {
+        field_id: 1,
+        kind: Some(FieldMatchKind::Lpm { value, prefix_len }),
+    };
     let entity = Entity::DirectCounterEntry(DirectCounterEntry {
-        table_entry: Some(counted(alloc, table.parse::<u32>()?, route)?),
+        table_entry: Some(counted(alloc, table, route)?),
         content: Some(content),
     });
     let entities = only(alloc, entity)?;
-    Ok(write_message(alloc, &ReadResponse { entities })?)
+    spelled(alloc, ReadResponse { entities })
 }
 
 // A ternary match of field 1: the value and the mask.
@@ -166,7 +181,7 @@ fn ternary(alloc: Global, value: &str, mask: &str) -> Result<ByteList, NoAnswer>
         field_id: 1,
         kind: Some(FieldMatchKind::Ternary { value, mask }),
     };
-    Ok(write_message(alloc, &message)?)
+    spelled(alloc, message)
 }
 
 // A digest's sample of fields.
@@ -175,25 +190,30 @@ fn sample(alloc: Global, fields: &[&str]) -> Result<ByteList, NoAnswer> {
     for field in fields {
         members.push(byte_list(alloc, field)?)?;
     }
-    Ok(write_message(alloc, &P4Data::Struct(members))?)
+    spelled(alloc, P4Data::Struct(members))
+}
+
+// The bytes of a message of a kind, of what stands in it.
+fn message(alloc: Global, kind: &str, asked: &[&str]) -> Result<ByteList, NoAnswer> {
+    match (kind, asked) {
+        ("notice", [low, code]) => notice(alloc, low, code),
+        ("refused packet", [code, rule, payload]) => refused_packet(alloc, code, rule, payload),
+        ("error", [part]) => error(alloc, part),
+        ("status", [code, message, errors @ ..]) => status(alloc, code, message, errors),
+        ("cookie", [number]) => cookie(alloc, number),
+        ("version", [version]) => capabilities(alloc, version),
+        ("direct counter", [table, prefix, length, packets, bytes]) => {
+            counter(alloc, [table, prefix, length, packets, bytes])
+        }
+        ("ternary match", [value, mask]) => ternary(alloc, value, mask),
+        ("sample", fields) => sample(alloc, fields),
+        _ => Err(NoAnswer),
+    }
 }
 
 /// Of a message's kind and what stands in it: its bytes.
 pub fn sent(alloc: Global, kind: &str, asked: &[&str], told: &mut String) -> Result<(), NoAnswer> {
-    let message = match (kind, asked) {
-        ("notice", [low, code]) => notice(alloc, low, code)?,
-        ("refused packet", [code, rule, payload]) => refused_packet(alloc, code, rule, payload)?,
-        ("error", [part]) => error(alloc, part)?,
-        ("status", [code, message, errors @ ..]) => status(alloc, code, message, errors)?,
-        ("cookie", [number]) => cookie(alloc, number)?,
-        ("version", [version]) => capabilities(alloc, version)?,
-        ("direct counter", [table, prefix, length, packets, bytes]) => {
-            counter(alloc, [table, prefix, length, packets, bytes])?
-        }
-        ("ternary match", [value, mask]) => ternary(alloc, value, mask)?,
-        ("sample", fields) => sample(alloc, fields)?,
-        _ => return Err(NoAnswer),
-    };
+    let message = message(alloc, kind, asked)?;
     tell_hex(alloc, told, message.as_slice());
     Ok(())
 }
