@@ -5,7 +5,6 @@ ghost use Rattle.plane_spec.specs.Bridge.{bridge_config};
 use crate::objects;
 use crate::pipeline::pipeline;
 use list_types::{List, NoMemory};
-use p4info_model::write_info;
 use plane_state::Config;
 use std::alloc::Global;
 
@@ -13,8 +12,8 @@ use std::alloc::Global;
 pub fn config(alloc: Global) -> Result<Config, NoMemory>
     ensures { IfOk result (λ config. config ≡ bridge_config) }
 {
-    let info = objects::info(alloc)?;
-    let p4info = write_info(alloc, &info)?;
+    let p4info = objects::info_bytes(alloc)?;
+    let info = objects::info(alloc, p4info.as_slice())?;
     let pipeline = pipeline(alloc)?;
     let config = Config::new(alloc, p4info, List::new(alloc), 0, info, pipeline)?;
     Ok(config)

@@ -1,14 +1,10 @@
 //! The bridge's P4Info.
-ghost use Rattle.std.specs.Prelude.{◌≡◌, ◌∷◌, [], IfOk, Some};
-ghost use Rattle.plane_spec.specs.Bridge.{named, bridge_info};
-ghost use Rattle.bridge_program.specs.BridgeInfo.{forward_message, drop_message, table_message, bridge_message};
+ghost use Rattle.std.specs.Prelude.{◌≡◌, ◌∷◌, [], IfOk};
+ghost use Rattle.plane_spec.specs.Bridge.{bridge_info, bridge_bytes};
 
-use list_types::{List, NoMemory, Refusal, Text};
-use p4_types::p4info;
-use p4_types::p4info::{Action, ActionRef, MatchField, Param, Preamble, Table};
-use p4info_model::P4Info;
+use list_types::{ByteList, List, NoMemory, Refusal};
+use p4info_model::{P4Info, read_info};
 use std::alloc::Global;
-use text_lists::TextList;
 
 pub(crate) const TABLE: u32 = 0x0200_0001;
 
@@ -16,8 +12,16 @@ pub(crate) const FORWARD: u32 = 0x0100_0001;
 
 pub(crate) const DROP: u32 = 0x0100_0002;
 
-// The number of the exact match type.
-const EXACT: i32 = 2;
+// The table `bridge` with an exact field `eth.dst` of 48 bits and room for 4 entries, and its actions `forward`, with a `port` of
+// 9 bits, and `drop`.
+const BYTES: [u8; 95] = [
+    0x12, 0x30, 0x0a, 0x0d, 0x08, 0x81, 0x80, 0x80, 0x10, 0x12, 0x06, 0x62, 0x72, 0x69, 0x64, 0x67,
+    0x65, 0x12, 0x0f, 0x08, 0x01, 0x12, 0x07, 0x65, 0x74, 0x68, 0x2e, 0x64, 0x73, 0x74, 0x20, 0x30,
+    0x28, 0x02, 0x1a, 0x05, 0x08, 0x81, 0x80, 0x80, 0x08, 0x1a, 0x05, 0x08, 0x82, 0x80, 0x80, 0x08,
+    0x40, 0x04, 0x1a, 0x1c, 0x0a, 0x0e, 0x08, 0x81, 0x80, 0x80, 0x08, 0x12, 0x07, 0x66, 0x6f, 0x72,
+    0x77, 0x61, 0x72, 0x64, 0x12, 0x0a, 0x08, 0x01, 0x12, 0x04, 0x70, 0x6f, 0x72, 0x74, 0x20, 0x09,
+    0x1a, 0x0d, 0x0a, 0x0b, 0x08, 0x82, 0x80, 0x80, 0x08, 0x12, 0x04, 0x64, 0x72, 0x6f, 0x70,
+];
 
 /// A list of one item.
 pub(crate) fn only<T>(alloc: Global, item: T) -> Result<List<T>, NoMemory>
@@ -30,125 +34,22 @@ where
     Ok(list)
 }
 
-fn text(alloc: Global, name: &str) -> Result<Text, NoMemory>
-    ensures { IfOk result (λ text. text ≡ name.now) }
+/// The canonical bytes of the bridge's P4Info (p4.config.v1).
+#[tactic(auto, unfolding(plane_spec::specs::Bridge::bridge_bytes))]
+pub(crate) fn info_bytes(alloc: Global) -> Result<ByteList, NoMemory>
+    ensures { IfOk result (λ bytes. bytes ≡ bridge_bytes) }
 {
-    let mut text = String::new(alloc);
-    text.push_str(name)?;
-    Ok(Text::from_string(text))
+    let mut bytes = List::new(alloc);
+    bytes.extend_from_slice(&BYTES)?;
+    Ok(bytes)
 }
 
-// What an object of this id and name has.
-fn preamble(alloc: Global, id: u32, name: &str) -> Result<Option<Preamble>, NoMemory>
-    ensures { IfOk result (λ preamble. preamble ≡ Some (named id name.now)) }
-{
-    let name = text(alloc, name)?;
-    Ok(Some(Preamble {
-        id,
-        name,
-        alias: text(alloc, "")?,
-        annotations: TextList::new(alloc),
-    }))
-}
-
-fn forward(alloc: Global) -> Result<Action, NoMemory>
-    ensures { IfOk result (λ action. action ≡ forward_message) }
-{
-    let name = text(alloc, "port")?;
-    let params = only(
-        alloc,
-        Param {
-            id: 1,
-            name,
-            bitwidth: 9,
-        },
-    )?;
-    Ok(Action {
-        preamble: preamble(alloc, FORWARD, "forward")?,
-        params,
-    })
-}
-
-fn actions(alloc: Global) -> Result<List<Action>, NoMemory>
-    ensures { IfOk result (λ actions. actions ≡ forward_message ∷ drop_message ∷ []) }
-{
-    let mut actions = only(alloc, forward(alloc)?)?;
-    actions.push(Action {
-        preamble: preamble(alloc, DROP, "drop")?,
-        params: List::new(alloc),
-    })?;
-    Ok(actions)
-}
-
-fn action_refs(alloc: Global) -> Result<List<ActionRef>, NoMemory>
-    ensures { IfOk result (λ refs. refs ≡ table_message.action_refs) }
-{
-    let mut refs = only(
-        alloc,
-        ActionRef {
-            id: FORWARD,
-            scope: 0,
-        },
-    )?;
-    refs.push(ActionRef { id: DROP, scope: 0 })?;
-    Ok(refs)
-}
-
-fn match_fields(alloc: Global) -> Result<List<MatchField>, NoMemory>
-    ensures { IfOk result (λ fields. fields ≡ table_message.match_fields) }
-{
-    let name = text(alloc, "eth.dst")?;
-    only(
-        alloc,
-        MatchField {
-            id: 1,
-            name,
-            bitwidth: 48,
-            match_type: EXACT,
-        },
-    )
-}
-
-fn table(alloc: Global) -> Result<Table, NoMemory>
-    ensures { IfOk result (λ table. table ≡ table_message) }
-{
-    let preamble = preamble(alloc, TABLE, "bridge")?;
-    let match_fields = match_fields(alloc)?;
-    let action_refs = action_refs(alloc)?;
-    Ok(Table {
-        preamble,
-        match_fields,
-        action_refs,
-        const_default_action_id: 0,
-        implementation_id: 0,
-        direct_resource_ids: List::new(alloc),
-        size: 4,
-        idle_timeout_behavior: 0,
-        is_const_table: false,
-    })
-}
-
-fn message(alloc: Global) -> Result<p4info::P4Info, NoMemory>
-    ensures { IfOk result (λ message. message ≡ bridge_message) }
-{
-    let tables = only(alloc, table(alloc)?)?;
-    let actions = actions(alloc)?;
-    Ok(p4info::P4Info {
-        tables,
-        actions,
-        action_profiles: List::new(alloc),
-        counters: List::new(alloc),
-        direct_counters: List::new(alloc),
-        controller_packet_metadata: List::new(alloc),
-        digests: List::new(alloc),
-    })
-}
-
-/// The bridge's objects.
-pub(crate) fn info(alloc: Global) -> Result<P4Info, NoMemory>
+/// The objects that the bytes of the bridge's P4Info are.
+pub(crate) fn info(alloc: Global, bytes: &[u8]) -> Result<P4Info, NoMemory>
+    requires { bytes.now ≡ bridge_bytes }
     ensures { IfOk result (λ info. info ≡ bridge_info) }
 {
-    match P4Info::of(alloc, message(alloc)?) {
+    match read_info(alloc, bytes) {
         Ok(info) => Ok(info),
         Err(Refusal::NoMemory) => Err(NoMemory),
         Err(Refusal::For(_)) => unreachable!(),

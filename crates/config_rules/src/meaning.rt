@@ -8,11 +8,10 @@ ghost use Rattle.config_rules.specs.Flaw.{rule_of, flaw_of, config_flaw};
 
 use bm_link::link;
 use bm_pipeline::Pipeline;
-use info_rules::read_info;
 use list_types::{ByteList, List, NoMemory, Refusal};
 use p4_types::code::ConfigRule;
 use p4_types::messages::{Cookie, ForwardingPipelineConfig};
-use p4info_model::P4Info;
+use p4info_model::{P4Info, read_info};
 use p4v1_read::read_config;
 use plane_state::Config;
 use std::alloc::Global;

@@ -10,8 +10,8 @@ use Rattle.std.proofs.lemmas.Bool.Decides.{nat_tests}
 use Rattle.std.proofs.Math.ListN.{get_or}
 use Rattle.std.proofs.lemmas.List.Sums.{fold_more}
 use Rattle.std.proofs.lemmas.List.Folds.{fold-map, list_any-append}
-use Rattle.p4info_model.specs.Rules.{lacks_some, differ, same_pair}
-use Rattle.p4info_model.proofs.Sameness.{list_any_same, list_any_map}
+use Rattle.info_rules.specs.Rules.{lacks_some, differ, same_pair}
+use Rattle.info_rules.proofs.Sameness.{list_any_same, list_any_map}
 use Rattle.list_types.specs.declared.memory.Refusal.{Refusal}
 use Rattle.wire_messages.specs.declared.errors.Unreadable.{Unreadable}
 use Rattle.wire_messages.specs.Answers.{ReadsInMemory}

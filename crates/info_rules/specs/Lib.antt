@@ -1,2 +1,5 @@
+pub mod Numbers
+pub mod Objects
+pub mod Rules
 pub mod Flaw
 pub mod Pairs

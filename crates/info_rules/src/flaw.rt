@@ -4,8 +4,7 @@ ghost use Rattle.wire_messages.specs.Answers.{ReadsInMemory};
 ghost use Rattle.std.specs.Option.{option_map};
 ghost use Rattle.p4v1_read.specs.Nested.{read};
 ghost use Rattle.p4v1_read.specs.P4Infos.{p4info_of};
-ghost use Rattle.p4info_model.specs.Flaw.{flaw};
-ghost use Rattle.info_rules.specs.Flaw.{flaw_read};
+ghost use Rattle.info_rules.specs.Flaw.{flaw, flaw_read};
 
 use crate::opened::opened;
 use crate::readable::Readable;
@@ -15,7 +14,7 @@ use p4_types::p4info::P4Info;
 use std::alloc::Global;
 use wire_messages::{Message, Unreadable};
 
-#[tactic(auto, unfolding(p4info_model::specs::Flaw::flaw))]
+#[tactic(auto, unfolding(crate::specs::Flaw::flaw))]
 fn flaw_of(alloc: Global, message: &Message<'_>) -> Result<Option<u8>, Refusal<Unreadable>>
     ensures { IfSome (p4info_of message.now) (λ info. ReadsInMemory (λ x. x) result (Some (flaw info))) }
 {
@@ -54,7 +53,9 @@ fn first_flaw(alloc: Global, bytes: &[u8]) -> Result<Option<u8>, Refusal<Unreada
     flaw_of(alloc, &message)
 }
 
-/// The first rule that the bytes of a P4Info break: 1 where they are not read, else 2 to 9.
+/// The first rule that the bytes of a P4Info (p4.config.v1) break: 1 where they are not read, else 2 to 9. While they are judged
+/// nothing is kept of them but ids, names and references, so a P4Info with a great many small objects takes no more than one
+/// with a few large ones.
 pub fn info_flaw(alloc: Global, bytes: &[u8]) -> Result<Option<u8>, NoMemory>
     ensures { IfOk result (λ rule. rule ≡ flaw_read (read p4info_of bytes.now)) }
 {

@@ -6,7 +6,7 @@ ghost use Rattle.wire_messages.specs.Answers.{Reads, ReadsInMemory};
 ghost use Rattle.p4_types.specs.declared.p4info.Preamble as declared;
 ghost use Rattle.p4v1_read.specs.Nested.{one_at, all_at};
 ghost use Rattle.p4v1_read.specs.P4Infos.{preamble_of, table_of, action_of, action_profile_of, counter_of, direct_counter_of, controller_packet_metadata_of, digest_of};
-ghost use Rattle.p4info_model.specs.Objects.{id_of, name_of, is_of_another_kind};
+ghost use Rattle.info_rules.specs.Objects.{id_of, name_of, is_of_another_kind};
 
 use crate::asking::Question;
 use crate::gathering::Gift;

@@ -5,13 +5,13 @@ mod asking;
 mod flaw;
 mod gathering;
 mod kinds;
+pub mod numbers;
 mod opened;
 mod pairs;
 mod parts;
-mod read;
 mod readable;
 mod references;
+mod repeats;
 mod rules;
 
 pub use flaw::info_flaw;
-pub use read::read_info;

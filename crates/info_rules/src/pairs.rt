@@ -6,8 +6,8 @@ ghost use Rattle.std.specs.List.{flat_map, list_any};
 ghost use Rattle.std.specs.Set.{is_member};
 ghost use Rattle.wire_messages.specs.Answers.{ReadsInMemory};
 ghost use Rattle.p4v1_read.specs.Nested.{all_at};
-ghost use Rattle.p4info_model.specs.Objects.{id_of};
-ghost use Rattle.p4info_model.specs.Rules.{lacks_some, differ, same_pair};
+ghost use Rattle.info_rules.specs.Objects.{id_of};
+ghost use Rattle.info_rules.specs.Rules.{lacks_some, differ, same_pair};
 ghost use Rattle.info_rules.specs.Pairs.{joined, named_pairs};
 
 use crate::asking::{Question, any};

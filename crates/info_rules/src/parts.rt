@@ -5,14 +5,14 @@ ghost use Rattle.wire_fields.specs.Fields.{WireField};
 ghost use Rattle.wire_messages.specs.Answers.{Reads, ReadsInMemory};
 ghost use Rattle.p4v1_read.specs.Nested.{all_at};
 ghost use Rattle.p4v1_read.specs.P4Infos.{match_field_of, param_of, metadata_of, action_ref_of};
-ghost use Rattle.p4info_model.specs.Numbers.{width_of, kind_of, scope_of};
-ghost use Rattle.p4info_model.specs.Objects.{ids_clash};
+ghost use Rattle.info_rules.specs.Numbers.{width_of, kind_of, scope_of};
+ghost use Rattle.info_rules.specs.Objects.{ids_clash};
 
 use crate::asking::Question;
 use crate::gathering::{Gift, gather};
+use crate::{numbers, repeats};
 use list_types::{NoMemory, Refusal};
 use p4_types::p4info::{ActionRef, MatchField, Metadata, Param};
-use p4info_model::{numbers, repeats};
 use std::alloc::Global;
 use wire_messages::{Message, Unreadable};
 
@@ -133,7 +133,7 @@ impl<P: Numbered> Gift<P, u32> for PartId {
 }
 
 /// Whether an id is 0 or occurs twice.
-#[tactic(auto, unfolding(p4info_model::specs::Objects::ids_clash))]
+#[tactic(auto, unfolding(crate::specs::Objects::ids_clash))]
 pub(crate) fn ids_clash(alloc: Global, ids: &[u32]) -> Result<bool, NoMemory>
     ensures { spec.IfOk result (λ answer. answer ≡ ids_clash ids.now) }
 {

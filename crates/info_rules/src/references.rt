@@ -3,17 +3,17 @@ ghost use Rattle.std.specs.Prelude.{◌≡◌, ◌==◌, [], ◌∷◌, if◌the
 ghost use Rattle.std.specs.List.{list_any};
 ghost use Rattle.wire_messages.specs.Answers.{ReadsInMemory};
 ghost use Rattle.p4v1_read.specs.P4Infos.{p4info_of, table_of, action_profile_of, direct_counter_of, action_ref_of};
-ghost use Rattle.p4info_model.specs.Objects.{id_of};
-ghost use Rattle.p4info_model.specs.Rules.{breaks_i5, lacks_some, lacks_default, differ, same_pair, action_uses, profiles_of_tables, tables_of_profiles, counters_of_tables, tables_of_counters};
+ghost use Rattle.info_rules.specs.Objects.{id_of};
+ghost use Rattle.info_rules.specs.Rules.{breaks_i5, lacks_some, lacks_default, differ, same_pair, action_uses, profiles_of_tables, tables_of_profiles, counters_of_tables, tables_of_counters};
 
 use crate::asking::{Question, any};
 use crate::gathering::{Gift, gather};
 use crate::kinds::{Id, Kind};
 use crate::pairs::{Naming, pairs_differ};
 use crate::parts::PartId;
+use crate::repeats;
 use list_types::Refusal;
 use p4_types::p4info::{Action, ActionProfile, ActionRef, DirectCounter, Table};
-use p4info_model::repeats;
 use std::alloc::Global;
 use wire_messages::{Message, Unreadable};
 

@@ -4,22 +4,22 @@ ghost use Rattle.std.specs.List.{list_any};
 ghost use Rattle.wire_messages.specs.Answers.{Reads, ReadsInMemory};
 ghost use Rattle.p4v1_read.specs.Nested.{all_at};
 ghost use Rattle.p4v1_read.specs.P4Infos.{p4info_of, table_of, action_of, action_profile_of, counter_of, controller_packet_metadata_of, match_field_of, metadata_of};
-ghost use Rattle.p4info_model.specs.Numbers.{width_of, size_of, kind_of, is_lpm};
-ghost use Rattle.p4info_model.specs.Objects.{id_of, ids_clash, names_clash, name_of, is_of_another_kind};
-ghost use Rattle.p4info_model.specs.Rules.{breaks_i2, breaks_i3, breaks_i4, breaks_i6, breaks_i7, breaks_i8, breaks_i9, table_breaks_i7, table_breaks_i8, profile_breaks_i8, exceeds_limits, has_two_lpm, bits_of};
+ghost use Rattle.info_rules.specs.Numbers.{width_of, size_of, kind_of, is_lpm};
+ghost use Rattle.info_rules.specs.Objects.{id_of, ids_clash, names_clash, name_of, is_of_another_kind};
+ghost use Rattle.info_rules.specs.Rules.{breaks_i2, breaks_i3, breaks_i4, breaks_i6, breaks_i7, breaks_i8, breaks_i9, table_breaks_i7, table_breaks_i8, profile_breaks_i8, exceeds_limits, has_two_lpm, bits_of};
 
 use crate::asking::{Question, any, exceeds};
 use crate::gathering::gather;
 use crate::kinds::{Id, Kind, OtherKind, push_names};
 use crate::opened::opened;
 use crate::parts::{NoWidth, UnknownKind, UnknownScope, ids_clash, part_ids_clash};
+use crate::{numbers, repeats};
 use list_types::{NoMemory, Refusal};
 use p4_types::info::MatchKind;
 use p4_types::p4info::{
     Action, ActionProfile, ActionRef, ControllerPacketMetadata, Counter, Digest, DirectCounter,
     MatchField, Metadata, Param, Table,
 };
-use p4info_model::{numbers, repeats};
 use std::alloc::Global;
 use wire_messages::{Message, Unreadable};
 
@@ -101,7 +101,7 @@ fn has_empty(names: &[&str]) -> bool
     names.iter().any(|name| name.is_empty())
 }
 
-#[tactic(auto, using(p4info_model::proofs::Sameness::list_any_map), unfolding(p4info_model::specs::Objects::names_clash))]
+#[tactic(auto, using(crate::proofs::Sameness::list_any_map), unfolding(crate::specs::Objects::names_clash))]
 fn texts_clash(alloc: Global, names: &[&str]) -> Result<bool, NoMemory>
     ensures { IfOk result (λ answer. answer ≡ names_clash (map (λ x. x.now) names.now)) }
 {

@@ -14,7 +14,7 @@ use Rattle.p4_types.specs.declared.code.ConfigRule.{ConfigRule}
 use Rattle.p4_types.specs.declared.info.Info.{Info}
 use Rattle.p4_types.specs.declared.messages.ForwardingPipelineConfig.{ForwardingPipelineConfig}
 use Rattle.p4_types.specs.declared.p4info.P4Info.{P4Info}
-use Rattle.p4info_model.specs.Flaw as info_rules
+use Rattle.info_rules.specs.Flaw as info_rules
 use Rattle.p4info_model.specs.Resolved.{info_of}
 use Rattle.p4v1_read.specs.Nested.{read}
 use Rattle.p4v1_read.specs.P4Infos.{p4info_of}

@@ -1,7 +1,7 @@
 //! P4Infos, and what they break.
-use info_rules::read_info;
+
 use list_types::Refusal;
-use p4info_model::{P4Info, write_info};
+use p4info_model::{P4Info, read_info, write_info};
 use row_lines::{NoAnswer, bytes, say, tell};
 use std::alloc::Global;
 

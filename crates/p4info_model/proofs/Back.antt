@@ -30,13 +30,13 @@ use Rattle.p4v1_wire.specs.ReadBack.{counted, itself, where_fields}
 use Rattle.p4v1_wire.specs.Rows.{fields_by}
 use Rattle.p4v1_wire.proofs.InfoBack.{spec_or, info_back}
 use Rattle.p4info_model.specs.Answers.{IsReadAs}
-use Rattle.p4info_model.specs.Flaw.{flaw}
-use Rattle.p4info_model.specs.Numbers.{width_of, size_of, kind_of, scope_of, named}
-use Rattle.p4info_model.specs.Objects.{repeats, id_of, name_of, preamble_of, ids, ids_clash, is_of_another_kind}
+use Rattle.info_rules.specs.Flaw.{flaw}
+use Rattle.info_rules.specs.Numbers.{width_of, size_of, kind_of, scope_of, named}
+use Rattle.info_rules.specs.Objects.{repeats, id_of, name_of, preamble_of, ids, ids_clash, is_of_another_kind}
 use Rattle.p4info_model.specs.Resolved.{field_of, ref_of, table_of, param_of, action_of, profile_of, unit_of, counter_of, direct_counter_of, header_field_of, header_of, carried, digest_of, info_of}
-use Rattle.p4info_model.specs.Rules.{breaks_i2, breaks_i3, breaks_i4, breaks_i5, breaks_i6, breaks_i7, breaks_i8, breaks_i9, table_breaks_i7, table_breaks_i8, profile_breaks_i8, exceeds_limits}
+use Rattle.info_rules.specs.Rules.{breaks_i2, breaks_i3, breaks_i4, breaks_i5, breaks_i6, breaks_i7, breaks_i8, breaks_i9, table_breaks_i7, table_breaks_i8, profile_breaks_i8, exceeds_limits}
 use Rattle.p4info_model.specs.Valid.{AreSizesSmall, IsMade, IsValid, IsWidth}
-use Rattle.p4info_model.proofs.Sameness.{list_any_map, map_itself}
+use Rattle.info_rules.proofs.Sameness.{list_any_map, map_itself}
 use Rattle.p4info_model.proofs.Kept.{neither}
 use Rattle.p4info_model.proofs.Validity.{none_fails, three, six, none_broken}
 

@@ -1,4 +1,3 @@
-pub mod Sameness
 pub mod Positions
 pub mod Kept
 pub mod Validity

@@ -16,14 +16,14 @@ use Rattle.p4_types.specs.declared.p4info.DirectCounter.{DirectCounter}
 use Rattle.p4_types.specs.declared.p4info.Metadata.{Metadata}
 use Rattle.p4_types.specs.declared.p4info.P4Info.{P4Info}
 use Rattle.p4_types.specs.declared.p4info.Table.{Table}
-use Rattle.p4info_model.specs.Numbers.{width_of, kind_of, scope_of, size_of}
-use Rattle.p4info_model.specs.Objects.{id_of, repeats, ids_clash}
-use Rattle.p4info_model.specs.Rules.{breaks_i2, breaks_i3, breaks_i4, breaks_i5, breaks_i6, breaks_i7, breaks_i8, breaks_i9, same_pair, lacks_some, differ, action_uses, lacks_default, profiles_of_tables, profile_tables, tables_of_profiles, table_counters, counters_of_tables, tables_of_counters, table_breaks_i7, table_breaks_i8, profile_breaks_i8, exceeds_limits, has_two_lpm, bits_of}
-use Rattle.p4info_model.specs.Flaw.{flaw}
+use Rattle.info_rules.specs.Numbers.{width_of, kind_of, scope_of, size_of}
+use Rattle.info_rules.specs.Objects.{id_of, repeats, ids_clash}
+use Rattle.info_rules.specs.Rules.{breaks_i2, breaks_i3, breaks_i4, breaks_i5, breaks_i6, breaks_i7, breaks_i8, breaks_i9, same_pair, lacks_some, differ, action_uses, lacks_default, profiles_of_tables, profile_tables, tables_of_profiles, table_counters, counters_of_tables, tables_of_counters, table_breaks_i7, table_breaks_i8, profile_breaks_i8, exceeds_limits, has_two_lpm, bits_of}
+use Rattle.info_rules.specs.Flaw.{flaw}
 use Rattle.p4info_model.specs.Lookups.{table_at, action_at, profile_at, direct_counter_at}
 use Rattle.p4info_model.specs.Resolved.{field_of, ref_of, table_of, param_of, action_of, profile_of, direct_counter_of, header_field_of, header_of, info_of}
 use Rattle.p4info_model.specs.Valid.{IsWidth, AreApart, IsValidTable, IsValidAction, IsValidProfile, IsValidDirectCounter, IsValidHeader, IsValid}
-use Rattle.p4info_model.proofs.Sameness.{list_any_map}
+use Rattle.info_rules.proofs.Sameness.{list_any_map}
 use Rattle.p4info_model.proofs.Kept.{neither, each, each_map, list_any_flat, implied, there, numbers_kept}
 
 pub three : (a b c : Bool) → (a || b || c) ≡ false → (a ≡ false) × (b ≡ false) × (c ≡ false)

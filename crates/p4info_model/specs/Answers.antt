@@ -5,7 +5,7 @@ use Rattle.p4_types.specs.declared.p4info.P4Info as message
 use Rattle.list_types.specs.declared.memory.Refusal.{Refusal}
 use Rattle.list_types.specs.declared.memory.Refusal.TheVariants.{NoMemory, For}
 use Rattle.p4info_model.specs.declared.flaw.InfoFault.{InfoFault}
-use Rattle.p4info_model.specs.Flaw.{flaw}
+use Rattle.info_rules.specs.Flaw.{flaw}
 use Rattle.p4info_model.specs.Resolved.{info_of}
 use Rattle.p4v1_read.specs.Nested.{read}
 use Rattle.p4v1_read.specs.P4Infos.{p4info_of}

@@ -1,7 +1,3 @@
-pub mod Numbers
-pub mod Objects
-pub mod Rules
-pub mod Flaw
 pub mod Resolved
 pub mod Lookups
 pub mod Valid

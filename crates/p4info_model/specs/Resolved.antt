@@ -28,8 +28,8 @@ use Rattle.p4_types.specs.declared.info.MatchKind.TheVariants as kinds
 use Rattle.p4_types.specs.declared.info.Param.{Param}
 use Rattle.p4_types.specs.declared.info.Scope.TheVariants as scopes
 use Rattle.p4_types.specs.declared.info.Table.{Table}
-use Rattle.p4info_model.specs.Numbers.{width_of, size_of, kind_of, scope_of, named}
-use Rattle.p4info_model.specs.Objects.{preamble_of}
+use Rattle.info_rules.specs.Numbers.{width_of, size_of, kind_of, scope_of, named}
+use Rattle.info_rules.specs.Objects.{preamble_of}
 
 -- a field of a table's key, with its width and its match kind
 abbrev pub field_of : message_field.MatchField → MatchField

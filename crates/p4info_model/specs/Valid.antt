@@ -9,7 +9,7 @@ use Rattle.p4_types.specs.declared.info.Info.{Info}
 use Rattle.p4_types.specs.declared.info.Table.{Table}
 use Rattle.p4info_model.specs.declared.index.Index.{Index}
 use Rattle.p4_types.specs.declared.p4info.P4Info as message
-use Rattle.p4info_model.specs.Flaw.{flaw}
+use Rattle.info_rules.specs.Flaw.{flaw}
 use Rattle.p4info_model.specs.Resolved.{info_of}
 use Rattle.p4info_model.specs.Lookups.{table_at, action_at, profile_at, direct_counter_at, ArePlaces}
 

@@ -3,15 +3,9 @@
 
 mod flaw;
 mod index;
-pub mod numbers;
-mod objects;
-mod parts;
 mod places;
 mod read;
-mod references;
-pub mod repeats;
 mod resolve;
-mod rules;
 mod valid;
 mod write;
 

@@ -1,10 +1,10 @@
 //! The objects of a P4Info from its message.
 ghost use Rattle.std.specs.Prelude.{◌≡◌, ◌<◌, ◌^◌, All, map, IfOk};
-ghost use Rattle.p4info_model.specs.Objects.{preamble_of};
+ghost use Rattle.info_rules.specs.Objects.{preamble_of};
 ghost use Rattle.p4info_model.specs.Valid.{AreSizesSmall};
 ghost use Rattle.p4info_model.specs.Resolved.{field_of, ref_of, table_of, param_of, action_of, profile_of, unit_of, counter_of, direct_counter_of, header_field_of, header_of, carried, digest_of, info_of};
 
-use crate::numbers;
+use info_rules::numbers;
 use list_types::{ByteList, List, NoMemory, Text};
 use p4_types::info::{Info, MatchKind, Scope};
 use p4_types::p4info::{CounterSpec, P4Info, Preamble};

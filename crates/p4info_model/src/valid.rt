@@ -1,10 +1,9 @@
 //! A P4Info that breaks no rule.
-ghost use Rattle.std.specs.Prelude.{◌≡◌, IfSome, option_copied};
+ghost use Rattle.std.specs.Prelude.{◌≡◌, IfOk, IfSome, None, option_copied};
 
-use crate::flaw::InfoFault;
 use crate::index::Index;
-use crate::{flaw, places, resolve};
-use list_types::Refusal;
+use crate::{places, resolve};
+use list_types::NoMemory;
 use p4_types::info::{
     Action, ActionProfile, ControllerHeader, Counter, Digest, DirectCounter, Info, Table,
 };
@@ -41,23 +40,19 @@ impl Drop for P4Info {
 }
 
 impl P4Info {
-    ghost use Rattle.p4info_model.specs.Answers.{Accepts};
+    ghost use Rattle.info_rules.specs.Flaw.{flaw};
     ghost use Rattle.p4info_model.specs.Lookups.{table_at, action_at, profile_at, counter_at, direct_counter_at, digest_at, header_named};
+    ghost use Rattle.p4info_model.specs.Resolved.{info_of};
     ghost use Rattle.p4info_model.specs.Valid.{IsMade, IsValid, AreSizesSmall, IsValidTable, IsValidAction, IsValidProfile, IsValidDirectCounter, IsValidHeader};
 
-    /// The P4Info of a message that breaks none of the rules I2 to I9, or the first that it breaks.
-    /// An object without a preamble has id 0, which breaks I2.
-    pub fn of(alloc: Global, message: p4info::P4Info) -> Result<P4Info, Refusal<InfoFault>>
-        ensures { Accepts message result }
+    /// The P4Info of a message that breaks none of the rules I2 to I9. An object without a preamble has id 0, which breaks I2.
+    pub(crate) fn of(alloc: Global, message: p4info::P4Info) -> Result<P4Info, NoMemory>
+        requires { flaw message ≡ None }
+        ensures { IfOk result (λ info. info ≡ info_of message) }
     {
-        match flaw::flaw(alloc, &message)? {
-            Some(rule) => Err(Refusal::For(InfoFault { rule })),
-            None => {
-                let info = resolve::info_of(alloc, message)?;
-                let index = Index::of(alloc, &info)?;
-                Ok(P4Info { info, index })
-            }
-        }
+        let info = resolve::info_of(alloc, message)?;
+        let index = Index::of(alloc, &info)?;
+        Ok(P4Info { info, index })
     }
 
     /// All objects.

@@ -1,5 +1,5 @@
 use Rattle.std.proofs.Common.{length, map}
-use Rattle.p4info_model.specs.Objects.{name_of}
+use Rattle.info_rules.specs.Objects.{name_of}
 use Rattle.p4v1_read.specs.Nested.{read, all_at}
 use Rattle.info_rules.proofs.Asked.{read_of, Adds}
 use Rattle.info_rules.proofs.kinds.push_names.Given as goal

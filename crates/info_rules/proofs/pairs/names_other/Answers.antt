@@ -1,4 +1,4 @@
-use Rattle.p4info_model.specs.Objects.{id_of}
+use Rattle.info_rules.specs.Objects.{id_of}
 use Rattle.p4v1_read.specs.Nested.{all_at}
 use Rattle.info_rules.specs.Pairs.{named_pairs}
 use Rattle.info_rules.proofs.Joined.{other_asked}

@@ -1,5 +1,5 @@
 use Rattle.std.proofs.Common.{length}
-use Rattle.p4info_model.specs.Objects.{id_of}
+use Rattle.info_rules.specs.Objects.{id_of}
 use Rattle.p4v1_read.specs.Nested.{read, all_at}
 use Rattle.info_rules.specs.Pairs.{named_pairs}
 use Rattle.info_rules.proofs.Asked.{read_of, Joins}

@@ -1,4 +1,4 @@
-use Rattle.p4info_model.specs.Objects.{id_of}
+use Rattle.info_rules.specs.Objects.{id_of}
 use Rattle.info_rules.specs.Pairs.{joined, named_pairs}
 use Rattle.info_rules.proofs.Joined.{found_beside}
 use Rattle.info_rules.proofs.pairs.put_pairs.Goals as goal

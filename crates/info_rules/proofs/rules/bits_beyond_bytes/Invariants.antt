@@ -1,5 +1,5 @@
 use Rattle.std.proofs.Common.{◌<◌, unwrap_or, sum_by, length}
-use Rattle.p4info_model.specs.Numbers.{width_of}
+use Rattle.info_rules.specs.Numbers.{width_of}
 use Rattle.p4v1_read.specs.Nested.{read, all_at}
 use Rattle.p4v1_read.specs.P4Infos.{metadata_of}
 use Rattle.info_rules.proofs.Asked.{read_of, Exceeds}

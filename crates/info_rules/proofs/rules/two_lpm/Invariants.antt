@@ -1,5 +1,5 @@
 use Rattle.std.proofs.Common.{cond, count_by, length}
-use Rattle.p4info_model.specs.Numbers.{kind_of, is_lpm}
+use Rattle.info_rules.specs.Numbers.{kind_of, is_lpm}
 use Rattle.p4v1_read.specs.Nested.{read, all_at}
 use Rattle.p4v1_read.specs.P4Infos.{match_field_of}
 use Rattle.info_rules.proofs.Asked.{read_of, Tallies}

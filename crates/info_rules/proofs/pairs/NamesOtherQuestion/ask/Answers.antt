@@ -1,6 +1,6 @@
 use Rattle.std.proofs.Common.{◌∙◌, sym}
-use Rattle.p4info_model.specs.Objects.{id_of}
-use Rattle.p4info_model.specs.Rules.{lacks_some, same_pair}
+use Rattle.info_rules.specs.Objects.{id_of}
+use Rattle.info_rules.specs.Rules.{lacks_some, same_pair}
 use Rattle.info_rules.specs.Pairs.{named_pairs}
 use Rattle.info_rules.proofs.Joined.{found_beside, lacks_beside}
 use Rattle.info_rules.proofs.pairs.NamesOtherQuestion.ask.Goals as goal

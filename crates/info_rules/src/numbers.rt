@@ -1,6 +1,6 @@
 //! What the numbers of a P4Info stand for.
 ghost use Rattle.std.specs.Prelude.{◌≡◌, ◌<◌, ◌^◌, IfSome};
-ghost use Rattle.p4info_model.specs.Numbers.{width_of, size_of, kind_of, scope_of, named};
+ghost use Rattle.info_rules.specs.Numbers.{width_of, size_of, kind_of, scope_of, named};
 
 use p4_types::info::{MatchKind, Scope};
 

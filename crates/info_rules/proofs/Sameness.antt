@@ -3,13 +3,13 @@ use Rattle.std.proofs.Common.{◌≡◌, ℕ, ◌∙◌, refl, ap, sym, Bool, co
 use Rattle.std.specs.List.{list_any}
 use Rattle.std.specs.Set.{is_member, unique_keys, distinct_count}
 use Rattle.std.specs.Str.{bytes_eq}
-use Rattle.std.specs.Ordering.{eq_by_cmp, nat_cmp, ordering_then}
+use Rattle.std.specs.Ordering.{eq_by_cmp, nat_cmp}
 use Rattle.std.specs.Cmp.Lexicographic.{slice_cmp}
 use Rattle.std.proofs.lemmas.Map.Text.{is_eq-slice_cmp}
 use Rattle.std.proofs.lemmas.List.{length-map}
 use Rattle.std.proofs.lemmas.Bool.Decides.{nat_tests}
-use Rattle.p4info_model.specs.Objects.{repeats}
-use Rattle.p4info_model.specs.Rules.{lacks_some, differ, same_pair}
+use Rattle.info_rules.specs.Objects.{repeats}
+use Rattle.info_rules.specs.Rules.{lacks_some}
 
 -- the same test of each item
 pub list_any_same : {A : Type 0} (p q : A → Bool) → ((x : A) → p x ≡ q x) → (xs : List A) → list_any p xs ≡ list_any q xs
@@ -46,10 +46,6 @@ lacks_same e c same whole parts = list_any_same (λ p. not (is_member c whole p)
 numbers_same : (x y : ℕ) → eq_by_cmp nat_cmp x y ≡ nat_eq x y
 numbers_same x y = grind (arith, nat_tests)
 
--- the order of pairs tells them apart
-pairs_same : (x y : ℕ × ℕ) → eq_by_cmp (λ a b. ordering_then (nat_cmp a.0 b.0) (nat_cmp a.1 b.1)) x y ≡ same_pair x y
-pairs_same x y = grind (arith, nat_tests)
-
 pub numbers_repeat : (xs : List ℕ) → repeats (eq_by_cmp nat_cmp) xs ≡ repeats nat_eq xs
 numbers_repeat xs = repeats_seen (λ x. x) nat_eq (eq_by_cmp nat_cmp) numbers_same xs ∙ ap (repeats nat_eq) (map_itself xs)
 
@@ -58,6 +54,3 @@ texts_repeat xs = repeats_seen (λ x. x.now) bytes_eq (eq_by_cmp (λ x y. slice_
 
 pub lacks_numbers : (whole parts : List ℕ) → lacks_some (eq_by_cmp nat_cmp) whole parts ≡ lacks_some nat_eq whole parts
 lacks_numbers whole parts = lacks_same nat_eq (eq_by_cmp nat_cmp) numbers_same whole parts
-
-pub pairs_differ : (xs ys : List (ℕ × ℕ)) → differ (eq_by_cmp (λ a b. ordering_then (nat_cmp a.0 b.0) (nat_cmp a.1 b.1))) xs ys ≡ differ same_pair xs ys
-pairs_differ xs ys = rw (lacks_same same_pair _ pairs_same xs ys, lacks_same same_pair _ pairs_same ys xs) refl

@@ -3,8 +3,8 @@ ghost use Rattle.std.specs.Prelude.{◌≡◌, IfOk, map, nat_eq};
 ghost use Rattle.std.specs.Ordering.{eq_by_cmp};
 ghost use Rattle.std.specs.Str.{bytes_eq};
 ghost use Rattle.std.specs.BTreeSet.{IsFromIterResult};
-ghost use Rattle.p4info_model.specs.Objects.{repeats};
-ghost use Rattle.p4info_model.specs.Rules.{lacks_some, differ, same_pair};
+ghost use Rattle.info_rules.specs.Objects.{repeats};
+ghost use Rattle.info_rules.specs.Rules.{lacks_some};
 
 use list_types::NoMemory;
 use std::alloc::{AllocError, Global};
@@ -35,15 +35,9 @@ fn lacks_some<T: Ord + Copy>(alloc: Global, whole: &[T], parts: &[T]) -> Result<
     Ok(false)
 }
 
-fn differ<T: Ord + Copy>(alloc: Global, items: &[T], others: &[T]) -> Result<bool, NoMemory>
-    ensures { IfOk result (λ answer. answer ≡ differ (eq_by_cmp T.cmp) items.now others.now) }
-{
-    Ok(lacks_some(alloc, others, items)? || lacks_some(alloc, items, others)?)
-}
-
 /// Whether a number occurs twice.
 #[tactic(auto, using(crate::proofs::Sameness::numbers_repeat))]
-pub fn numbers_repeat(alloc: Global, numbers: &[u32]) -> Result<bool, NoMemory>
+pub(crate) fn numbers_repeat(alloc: Global, numbers: &[u32]) -> Result<bool, NoMemory>
     ensures { IfOk result (λ answer. answer ≡ repeats nat_eq numbers.now) }
 {
     repeats(alloc, numbers)
@@ -51,7 +45,7 @@ pub fn numbers_repeat(alloc: Global, numbers: &[u32]) -> Result<bool, NoMemory>
 
 /// Whether a text occurs twice.
 #[tactic(auto, using(crate::proofs::Sameness::texts_repeat))]
-pub fn texts_repeat(alloc: Global, texts: &[&str]) -> Result<bool, NoMemory>
+pub(crate) fn texts_repeat(alloc: Global, texts: &[&str]) -> Result<bool, NoMemory>
     ensures { IfOk result (λ answer. answer ≡ repeats bytes_eq (map (λ x. x.now) texts.now)) }
 {
     repeats(alloc, texts)
@@ -59,20 +53,8 @@ pub fn texts_repeat(alloc: Global, texts: &[&str]) -> Result<bool, NoMemory>
 
 /// Whether a number is missing.
 #[tactic(auto, using(crate::proofs::Sameness::lacks_numbers))]
-pub fn lacks_numbers(alloc: Global, whole: &[u32], parts: &[u32]) -> Result<bool, NoMemory>
+pub(crate) fn lacks_numbers(alloc: Global, whole: &[u32], parts: &[u32]) -> Result<bool, NoMemory>
     ensures { IfOk result (λ answer. answer ≡ lacks_some nat_eq whole.now parts.now) }
 {
     lacks_some(alloc, whole, parts)
-}
-
-/// Whether two lists have not the same pairs.
-#[tactic(auto, using(crate::proofs::Sameness::pairs_differ))]
-pub fn pairs_differ(
-    alloc: Global,
-    pairs: &[(u32, u32)],
-    others: &[(u32, u32)],
-) -> Result<bool, NoMemory>
-    ensures { IfOk result (λ answer. answer ≡ differ same_pair pairs.now others.now) }
-{
-    differ(alloc, pairs, others)
 }

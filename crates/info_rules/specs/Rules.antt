@@ -6,8 +6,8 @@ use Rattle.p4_types.specs.declared.p4info.ActionProfile.{ActionProfile}
 use Rattle.p4_types.specs.declared.p4info.ControllerPacketMetadata.{ControllerPacketMetadata}
 use Rattle.p4_types.specs.declared.p4info.P4Info.{P4Info}
 use Rattle.p4_types.specs.declared.p4info.Table.{Table}
-use Rattle.p4info_model.specs.Numbers.{width_of, size_of, kind_of, scope_of, is_lpm}
-use Rattle.p4info_model.specs.Objects.{id_of, name_of, ids, ids_clash, names_clash, is_of_another_kind}
+use Rattle.info_rules.specs.Numbers.{width_of, size_of, kind_of, scope_of, is_lpm}
+use Rattle.info_rules.specs.Objects.{id_of, name_of, ids, ids_clash, names_clash, is_of_another_kind}
 
 -- I2: an id is 0 or occurs twice
 abbrev pub breaks_i2 : P4Info → Bool
