@@ -1,9 +1,11 @@
 //! Forms of a program that are left out.
-ghost use Rattle.std.specs.Prelude.{◌≡◌};
+ghost use Rattle.std.specs.Prelude.{◌≡◌, Bool};
 ghost use Rattle.std.specs.List.{list_any};
 ghost use Rattle.std.specs.Option.{option_copied};
+ghost use Rattle.bm_records.specs.declared.raw.RawProgram.{RawProgram};
 ghost use Rattle.bm_json.specs.LeftOut.{is_left_out, type_left_out, expression_left_out, condition_left_out, name_left_out, primitive_left_out, action_left_out, parser_op_left_out, match_left_out, mask_left_out, transition_left_out, state_left_out, input_left_out, calculation_left_out, checksum_left_out, learn_list_left_out, default_left_out, table_left_out, selector_left_out, pipeline_left_out, bits_over, type_named, has_ragged_type, is_ragged, names_ragged, extracts_ragged, packets_left_out, headers_left_out, objects_left_out, steps_left_out, has_left_out};
 
+use crate::scope::Scope;
 use bm_records::raw::{
     Action, ActionProfile, Calculation, CalculationInput, Checksum, Conditional, Datum,
     DefaultEntry, Expression, Header, HeaderType, LearnList, LearnListName, MatchValue, Node,
@@ -12,36 +14,55 @@ use bm_records::raw::{
 };
 use bm_values::literals::width_bits;
 use json_shapes::Name;
-use name_index::Index;
 
-fn is_left_out<T>(part: &Part<T>) -> bool
-    ensures { result ≡ is_left_out part.now }
+/// What may have a form that is left out.
+trait Formed {
+    ghost left_out: { Self → Bool };
+
+    /// Whether it is left out, or a part of it is.
+    fn is_left_out(&self) -> bool
+        ensures { result ≡ left_out self.now };
+}
+
+fn any_left_out<T: Formed>(items: &[T]) -> bool
+    ensures { result ≡ list_any T.left_out items.now }
 {
-    match part {
-        Part::Served(_) => false,
-        Part::LeftOut => true,
+    items.iter().any(|item| item.is_left_out())
+}
+
+impl<T> Formed for Part<T> {
+    ghost left_out = { is_left_out };
+
+    fn is_left_out(&self) -> bool {
+        match self {
+            Part::Served(_) => false,
+            Part::LeftOut => true,
+        }
     }
 }
 
-fn any_left_out<T>(parts: &[Part<T>]) -> bool
-    ensures { result ≡ list_any is_left_out parts.now }
-{
-    parts.iter().any(|part| is_left_out(part))
+impl<'a> Formed for TypeField<'a> {
+    ghost left_out = { λ field. is_left_out field.width };
+
+    fn is_left_out(&self) -> bool {
+        self.width.is_left_out()
+    }
 }
 
-fn type_left_out(header_type: &HeaderType<'_>) -> bool
-    ensures { result ≡ type_left_out header_type.now }
-{
-    let fields = header_type.fields.as_slice();
-    fields.iter().any(|field| is_left_out(&field.width))
+impl<'a> Formed for HeaderType<'a> {
+    ghost left_out = { type_left_out };
+
+    fn is_left_out(&self) -> bool {
+        any_left_out(self.fields.as_slice())
+    }
 }
 
 fn expression_left_out(expression: &Expression<'_>) -> bool
     ensures { result ≡ expression_left_out expression.now }
 {
     match &expression.node {
-        Node::Literal(literal) => is_left_out(literal),
-        Node::Valid(header) => is_left_out(header),
+        Node::Literal(literal) => literal.is_left_out(),
+        Node::Valid(header) => header.is_left_out(),
         Node::Unary(_, x) => expression_left_out(x),
         Node::Binary(_, x, y) => expression_left_out(x) || expression_left_out(y),
         Node::Choice(condition, x, y) => {
@@ -66,54 +87,59 @@ fn name_left_out(name: &LearnListName<'_>) -> bool
 {
     match name {
         LearnListName::Name(_) => false,
-        LearnListName::Id(id) => is_left_out(id),
+        LearnListName::Id(id) => id.is_left_out(),
         LearnListName::LeftOut => true,
     }
 }
 
-fn primitive_left_out(primitive: &Primitive<'_>) -> bool
-    ensures { result ≡ primitive_left_out primitive.now }
-{
-    match primitive {
-        Primitive::Assign { target, value } => is_left_out(target) || expression_left_out(value),
-        Primitive::AddHeader(header) => is_left_out(header),
-        Primitive::RemoveHeader(header) => is_left_out(header),
-        Primitive::AssignHeader { target, source } => is_left_out(target) || is_left_out(source),
-        Primitive::Drop => false,
-        Primitive::Count { counter, index } => is_left_out(counter) || expression_left_out(index),
-        Primitive::GenerateDigest(name) => name_left_out(name),
-        Primitive::NoOp => false,
-        Primitive::LeftOut => true,
-        Primitive::Unknown(_) => false,
+impl<'a> Formed for Primitive<'a> {
+    ghost left_out = { primitive_left_out };
+
+    fn is_left_out(&self) -> bool {
+        match self {
+            Primitive::Assign { target, value } => target.is_left_out()
+                || expression_left_out(value),
+            Primitive::AddHeader(header) => header.is_left_out(),
+            Primitive::RemoveHeader(header) => header.is_left_out(),
+            Primitive::AssignHeader { target, source } => target.is_left_out()
+                || source.is_left_out(),
+            Primitive::Drop => false,
+            Primitive::Count { counter, index } => counter.is_left_out()
+                || expression_left_out(index),
+            Primitive::GenerateDigest(name) => name_left_out(name),
+            Primitive::NoOp => false,
+            Primitive::LeftOut => true,
+            Primitive::Unknown(_) => false,
+        }
     }
 }
 
-fn any_datum(items: &[Datum]) -> bool
-    ensures { result ≡ list_any (λ datum. is_left_out datum.width) items.now }
-{
-    items.iter().any(|item| is_left_out(&item.width))
+impl Formed for Datum {
+    ghost left_out = { λ datum. is_left_out datum.width };
+
+    fn is_left_out(&self) -> bool {
+        self.width.is_left_out()
+    }
 }
 
-fn any_primitive(items: &[Primitive<'_>]) -> bool
-    ensures { result ≡ list_any (primitive_left_out) items.now }
-{
-    items.iter().any(|item| primitive_left_out(item))
+impl<'a> Formed for Action<'a> {
+    ghost left_out = { action_left_out };
+
+    fn is_left_out(&self) -> bool {
+        any_left_out(self.runtime_data.as_slice()) || any_left_out(self.primitives.as_slice())
+    }
 }
 
-fn action_left_out(action: &Action<'_>) -> bool
-    ensures { result ≡ action_left_out action.now }
-{
-    any_datum(action.runtime_data.as_slice()) || any_primitive(action.primitives.as_slice())
-}
+impl<'a> Formed for ParserOp<'a> {
+    ghost left_out = { parser_op_left_out };
 
-fn parser_op_left_out(op: &ParserOp<'_>) -> bool
-    ensures { result ≡ parser_op_left_out op.now }
-{
-    match op {
-        ParserOp::Extract(header) => is_left_out(header),
-        ParserOp::Set { target, value } => is_left_out(target) || expression_left_out(value),
-        ParserOp::LeftOut => true,
-        ParserOp::Unknown(_) => false,
+    fn is_left_out(&self) -> bool {
+        match self {
+            ParserOp::Extract(header) => header.is_left_out(),
+            ParserOp::Set { target, value } => target.is_left_out() || expression_left_out(value),
+            ParserOp::LeftOut => true,
+            ParserOp::Unknown(_) => false,
+        }
     }
 }
 
@@ -122,7 +148,7 @@ fn match_left_out(value: &MatchValue) -> bool
 {
     match value {
         MatchValue::Default => false,
-        MatchValue::Literal(literal) => is_left_out(literal),
+        MatchValue::Literal(literal) => literal.is_left_out(),
         MatchValue::LeftOut => true,
     }
 }
@@ -132,63 +158,63 @@ fn mask_left_out(mask: &Option<RawLiteral>) -> bool
 {
     match mask {
         None => false,
-        Some(mask) => is_left_out(mask),
+        Some(mask) => mask.is_left_out(),
     }
 }
 
-fn transition_left_out(transition: &Transition<'_>) -> bool
-    ensures { result ≡ transition_left_out transition.now }
-{
-    match_left_out(&transition.value) || mask_left_out(&transition.mask)
-}
+impl<'a> Formed for Transition<'a> {
+    ghost left_out = { transition_left_out };
 
-fn any_parser_op(items: &[ParserOp<'_>]) -> bool
-    ensures { result ≡ list_any (parser_op_left_out) items.now }
-{
-    items.iter().any(|item| parser_op_left_out(item))
-}
-
-fn any_transition(items: &[Transition<'_>]) -> bool
-    ensures { result ≡ list_any (transition_left_out) items.now }
-{
-    items.iter().any(|item| transition_left_out(item))
-}
-
-fn state_left_out(state: &ParseState<'_>) -> bool
-    ensures { result ≡ state_left_out state.now }
-{
-    any_parser_op(state.parser_ops.as_slice())
-        || any_left_out(state.transition_key.as_slice())
-        || any_transition(state.transitions.as_slice())
-}
-
-fn input_left_out(input: &CalculationInput<'_>) -> bool
-    ensures { result ≡ input_left_out input.now }
-{
-    match input {
-        CalculationInput::Field(_) => false,
-        CalculationInput::Literal { value, width } => is_left_out(value) || is_left_out(width),
-        CalculationInput::LeftOut => true,
+    fn is_left_out(&self) -> bool {
+        match_left_out(&self.value) || mask_left_out(&self.mask)
     }
 }
 
-fn calculation_left_out(calculation: &Calculation<'_>) -> bool
-    ensures { result ≡ calculation_left_out calculation.now }
-{
-    let input = calculation.input.as_slice();
-    input.iter().any(|input| input_left_out(input))
+impl<'a> Formed for ParseState<'a> {
+    ghost left_out = { state_left_out };
+
+    fn is_left_out(&self) -> bool {
+        any_left_out(self.parser_ops.as_slice())
+            || any_left_out(self.transition_key.as_slice())
+            || any_left_out(self.transitions.as_slice())
+    }
 }
 
-fn checksum_left_out(checksum: &Checksum<'_>) -> bool
-    ensures { result ≡ checksum_left_out checksum.now }
-{
-    condition_left_out(&checksum.if_cond)
+impl<'a> Formed for CalculationInput<'a> {
+    ghost left_out = { input_left_out };
+
+    fn is_left_out(&self) -> bool {
+        match self {
+            CalculationInput::Field(_) => false,
+            CalculationInput::Literal { value, width } => value.is_left_out()
+                || width.is_left_out(),
+            CalculationInput::LeftOut => true,
+        }
+    }
 }
 
-fn learn_list_left_out(list: &LearnList<'_>) -> bool
-    ensures { result ≡ learn_list_left_out list.now }
-{
-    any_left_out(list.elements.as_slice())
+impl<'a> Formed for Calculation<'a> {
+    ghost left_out = { calculation_left_out };
+
+    fn is_left_out(&self) -> bool {
+        any_left_out(self.input.as_slice())
+    }
+}
+
+impl<'a> Formed for Checksum<'a> {
+    ghost left_out = { checksum_left_out };
+
+    fn is_left_out(&self) -> bool {
+        condition_left_out(&self.if_cond)
+    }
+}
+
+impl<'a> Formed for LearnList<'a> {
+    ghost left_out = { learn_list_left_out };
+
+    fn is_left_out(&self) -> bool {
+        any_left_out(self.elements.as_slice())
+    }
 }
 
 fn default_left_out(entry: &Option<DefaultEntry>) -> bool
@@ -200,10 +226,12 @@ fn default_left_out(entry: &Option<DefaultEntry>) -> bool
     }
 }
 
-fn table_left_out(table: &Table<'_>) -> bool
-    ensures { result ≡ table_left_out table.now }
-{
-    table.has_entries || default_left_out(&table.default_entry)
+impl<'a> Formed for Table<'a> {
+    ghost left_out = { table_left_out };
+
+    fn is_left_out(&self) -> bool {
+        self.has_entries || default_left_out(&self.default_entry)
+    }
 }
 
 fn selector_left_out(selector: &Option<Selector<'_>>) -> bool
@@ -215,32 +243,28 @@ fn selector_left_out(selector: &Option<Selector<'_>>) -> bool
     }
 }
 
-fn any_table(items: &[Table<'_>]) -> bool
-    ensures { result ≡ list_any (table_left_out) items.now }
-{
-    items.iter().any(|item| table_left_out(item))
+impl<'a> Formed for ActionProfile<'a> {
+    ghost left_out = { λ profile. selector_left_out profile.selector };
+
+    fn is_left_out(&self) -> bool {
+        selector_left_out(&self.selector)
+    }
 }
 
-fn any_profile(items: &[ActionProfile<'_>]) -> bool
-    ensures { result ≡ list_any (λ profile. selector_left_out profile.selector) items.now }
-{
-    items.iter().any(|item| selector_left_out(&item.selector))
-}
+impl<'a> Formed for Conditional<'a> {
+    ghost left_out = { λ conditional. expression_left_out conditional.expression };
 
-fn any_conditional(items: &[Conditional<'_>]) -> bool
-    ensures { result ≡ list_any (λ conditional. expression_left_out conditional.expression) items.now }
-{
-    items
-        .iter()
-        .any(|item| expression_left_out(&item.expression))
+    fn is_left_out(&self) -> bool {
+        expression_left_out(&self.expression)
+    }
 }
 
 fn pipeline_left_out(pipeline: &Pipeline<'_>) -> bool
     ensures { result ≡ pipeline_left_out pipeline.now }
 {
-    any_table(pipeline.tables.as_slice())
-        || any_profile(pipeline.action_profiles.as_slice())
-        || any_conditional(pipeline.conditionals.as_slice())
+    any_left_out(pipeline.tables.as_slice())
+        || any_left_out(pipeline.action_profiles.as_slice())
+        || any_left_out(pipeline.conditionals.as_slice())
 }
 
 #[tactic(auto, using(bm_records::proofs::Together::over_more))]
@@ -255,176 +279,116 @@ fn bits_over(fields: &[TypeField<'_>]) -> u64
 }
 
 /// The header type of a header.
-pub(crate) fn type_of<'a, 't>(
-    types: &Index<'a, HeaderType<'t>>,
+pub(crate) fn type_of<'p, 'a>(
+    scope: &Scope<'p, 'a>,
     header: &Header<'_>,
-) -> Option<&'a HeaderType<'t>>
-    ensures { option_copied result ≡ type_named types.now header.now.header_type }
+) -> Option<&'p HeaderType<'a>>
+    ensures { option_copied result ≡ type_named scope.now.raw.now.header_types header.now.header_type }
 {
-    types.named_at(header.header_type.as_str())
+    scope.types.named_at(header.header_type.as_str())
 }
 
-fn has_ragged_type(types: &Index<HeaderType<'_>>, header: &Header<'_>) -> bool
-    ensures { result ≡ has_ragged_type types.now header.now }
+fn has_ragged_type(scope: &Scope, header: &Header) -> bool
+    ensures { result ≡ has_ragged_type scope.now.raw.now.header_types header.now }
 {
-    match type_of(types, header) {
+    match type_of(scope, header) {
         None => false,
         Some(header_type) => bits_over(header_type.fields.as_slice()) != 0,
     }
 }
 
-fn is_ragged(types: &Index<HeaderType<'_>>, header: &Header<'_>) -> bool
-    ensures { result ≡ is_ragged types.now header.now }
-{
-    !header.metadata && has_ragged_type(types, header)
+/// What may stand for headers that are not whole bytes.
+trait Packed {
+    ghost ragged: { RawProgram → Self → Bool };
+
+    /// Whether it stands for one.
+    fn is_ragged(&self, scope: &Scope) -> bool
+        ensures { result ≡ ragged scope.now.raw.now self.now };
 }
 
-fn names_ragged(types: &Index<HeaderType<'_>>, headers: &Index<Header<'_>>, name: &Name<'_>) -> bool
-    ensures { result ≡ names_ragged types.now headers.now name.now }
+fn any_ragged<T: Packed>(scope: &Scope, items: &[T]) -> bool
+    ensures { result ≡ list_any (T.ragged scope.now.raw.now) items.now }
 {
-    match headers.named_at(name.as_str()) {
-        None => false,
-        Some(header) => has_ragged_type(types, header),
+    items.iter().any(|item| item.is_ragged(scope))
+}
+
+impl<'a> Packed for Header<'a> {
+    ghost ragged = { λ raw header. is_ragged raw.header_types header };
+
+    fn is_ragged(&self, scope: &Scope) -> bool {
+        !self.metadata && has_ragged_type(scope, self)
     }
 }
 
-fn extracts_ragged(
-    types: &Index<HeaderType<'_>>,
-    headers: &Index<Header<'_>>,
-    op: &ParserOp<'_>,
-) -> bool
-    ensures { result ≡ extracts_ragged types.now headers.now op.now }
-{
-    match op {
-        ParserOp::Extract(Part::Served(name)) => names_ragged(types, headers, name),
-        _ => false,
+impl<'a> Packed for Name<'a> {
+    ghost ragged = { λ raw name. names_ragged raw.header_types raw.headers name };
+
+    fn is_ragged(&self, scope: &Scope) -> bool {
+        match scope.headers.named_at(self.as_str()) {
+            None => false,
+            Some(header) => has_ragged_type(scope, header),
+        }
     }
 }
 
-fn any_extracts_ragged(
-    types: &Index<HeaderType<'_>>,
-    headers: &Index<Header<'_>>,
-    ops: &[ParserOp<'_>],
-) -> bool
-    ensures { result ≡ list_any (extracts_ragged types.now headers.now) ops.now }
-{
-    ops.iter().any(|op| extracts_ragged(types, headers, op))
+impl<'a> Packed for ParserOp<'a> {
+    ghost ragged = { λ raw op. extracts_ragged raw.header_types raw.headers op };
+
+    fn is_ragged(&self, scope: &Scope) -> bool {
+        match self {
+            ParserOp::Extract(Part::Served(name)) => name.is_ragged(scope),
+            _ => false,
+        }
+    }
 }
 
-fn any_state_extracts_ragged(
-    types: &Index<HeaderType<'_>>,
-    headers: &Index<Header<'_>>,
-    states: &[ParseState<'_>],
-) -> bool
-    ensures { result ≡ list_any (λ state. list_any (extracts_ragged types.now headers.now) state.parser_ops) states.now }
-{
-    states.iter().any(|state| any_extracts_ragged(types, headers, state.parser_ops.as_slice()))
+impl<'a> Packed for ParseState<'a> {
+    ghost ragged = { λ raw state. list_any (extracts_ragged raw.header_types raw.headers) state.parser_ops };
+
+    fn is_ragged(&self, scope: &Scope) -> bool {
+        any_ragged(scope, self.parser_ops.as_slice())
+    }
 }
 
-fn any_name_ragged(
-    types: &Index<HeaderType<'_>>,
-    headers: &Index<Header<'_>>,
-    names: &[Name<'_>],
-) -> bool
-    ensures { result ≡ list_any (names_ragged types.now headers.now) names.now }
+fn packets_left_out(scope: &Scope) -> bool
+    ensures { result ≡ packets_left_out scope.now.raw.now }
 {
-    names.iter().any(|name| names_ragged(types, headers, name))
+    any_ragged(scope, scope.raw.deparser.order.as_slice())
+        || any_ragged(scope, scope.raw.parser.parse_states.as_slice())
 }
 
-fn packets_left_out(
-    types: &Index<HeaderType<'_>>,
-    headers: &Index<Header<'_>>,
-    program: &RawProgram<'_>,
-) -> bool
-    requires types { types.now ≡ program.now.header_types }
-    requires headers { headers.now ≡ program.now.headers }
-    ensures { result ≡ packets_left_out program.now }
+fn headers_left_out(scope: &Scope) -> bool
+    ensures { result ≡ headers_left_out scope.now.raw.now }
 {
-    any_name_ragged(types, headers, program.deparser.order.as_slice())
-        || any_state_extracts_ragged(types, headers, program.parser.parse_states.as_slice())
+    scope.raw.lists_left_out
+        || any_left_out(scope.raw.header_types.as_slice())
+        || any_ragged(scope, scope.raw.headers.as_slice())
 }
 
-fn any_type(items: &[HeaderType<'_>]) -> bool
-    ensures { result ≡ list_any (type_left_out) items.now }
-{
-    items.iter().any(|item| type_left_out(item))
-}
-
-fn any_ragged(types: &Index<HeaderType<'_>>, headers: &[Header<'_>]) -> bool
-    ensures { result ≡ list_any (is_ragged types.now) headers.now }
-{
-    headers.iter().any(|header| is_ragged(types, header))
-}
-
-fn headers_left_out(types: &Index<HeaderType<'_>>, program: &RawProgram<'_>) -> bool
-    requires { types.now ≡ program.now.header_types }
-    ensures { result ≡ headers_left_out program.now }
-{
-    program.lists_left_out
-        || any_type(program.header_types.as_slice())
-        || any_ragged(types, program.headers.as_slice())
-}
-
-fn any_calculation(items: &[Calculation<'_>]) -> bool
-    ensures { result ≡ list_any (calculation_left_out) items.now }
-{
-    items.iter().any(|item| calculation_left_out(item))
-}
-
-fn any_checksum(items: &[Checksum<'_>]) -> bool
-    ensures { result ≡ list_any (checksum_left_out) items.now }
-{
-    items.iter().any(|item| checksum_left_out(item))
-}
-
-fn any_learn_list(items: &[LearnList<'_>]) -> bool
-    ensures { result ≡ list_any (learn_list_left_out) items.now }
-{
-    items.iter().any(|item| learn_list_left_out(item))
-}
-
-fn any_action(items: &[Action<'_>]) -> bool
-    ensures { result ≡ list_any (action_left_out) items.now }
-{
-    items.iter().any(|item| action_left_out(item))
-}
-
-fn objects_left_out(program: &RawProgram<'_>) -> bool
+fn objects_left_out(program: &RawProgram) -> bool
     ensures { result ≡ objects_left_out program.now }
 {
-    any_calculation(program.calculations.as_slice())
-        || any_checksum(program.checksums.as_slice())
-        || any_learn_list(program.learn_lists.as_slice())
-        || any_action(program.actions.as_slice())
+    any_left_out(program.calculations.as_slice())
+        || any_left_out(program.checksums.as_slice())
+        || any_left_out(program.learn_lists.as_slice())
+        || any_left_out(program.actions.as_slice())
 }
 
-fn any_state(items: &[ParseState<'_>]) -> bool
-    ensures { result ≡ list_any (state_left_out) items.now }
-{
-    items.iter().any(|item| state_left_out(item))
-}
-
-fn steps_left_out(program: &RawProgram<'_>) -> bool
+fn steps_left_out(program: &RawProgram) -> bool
     ensures { result ≡ steps_left_out program.now }
 {
-    any_state(program.parser.parse_states.as_slice())
+    any_left_out(program.parser.parse_states.as_slice())
         || pipeline_left_out(&program.pipelines.ingress)
         || pipeline_left_out(&program.pipelines.egress)
 }
 
-/// Whether the program, of which these are the header types and the headers, has a form that is left out.
+/// Whether the program has a form that is left out.
 #[tactic(auto, unfolding(crate::specs::LeftOut::has_left_out))]
-pub(crate) fn has_left_out(
-    types: &Index<HeaderType<'_>>,
-    headers: &Index<Header<'_>>,
-    program: &RawProgram<'_>,
-) -> bool
-    requires types { types.now ≡ program.now.header_types }
-    requires headers { headers.now ≡ program.now.headers }
-    ensures { result ≡ has_left_out program.now }
+pub(crate) fn has_left_out(scope: &Scope) -> bool
+    ensures { result ≡ has_left_out scope.now.raw.now }
 {
-    headers_left_out(types, program)
-        || packets_left_out(types, headers, program)
-        || objects_left_out(program)
-        || steps_left_out(program)
+    headers_left_out(scope)
+        || packets_left_out(scope)
+        || objects_left_out(scope.raw)
+        || steps_left_out(scope.raw)
 }

@@ -6,6 +6,7 @@ pub mod laws;
 mod left_out;
 mod limits;
 mod program;
+mod scope;
 
 pub use bm_records::raw;
 pub use faults::JsonFault;

@@ -1,30 +1,28 @@
 //! The limits of a program.
-ghost use Rattle.std.specs.Prelude.{◌≡◌, ◌+◌, nat_lt, count_by, not, length};
+ghost use Rattle.std.specs.Prelude.{◌≡◌, ◌+◌, Bool, nat_lt, count_by, not, length};
 ghost use Rattle.std.specs.List.{list_any};
 ghost use Rattle.bm_json.specs.Limits.{fields_of, has_more_fields, action_exceeds, counters_exceed, pipelines_exceed, headers_exceed, learn_lists_exceed, objects_exceed, exceeds};
 
 use crate::left_out;
-use bm_records::raw::{
-    Action, CounterArray, Header, HeaderType, LearnList, Pipelines, RawProgram, Table,
-};
-use name_index::Index;
+use crate::scope::Scope;
+use bm_records::raw::{Action, CounterArray, Header, LearnList, Pipelines, RawProgram, Table};
 
-fn fields_of(types: &Index<HeaderType<'_>>, header: &Header<'_>) -> usize
-    ensures { result ≡ fields_of types.now header.now }
+fn fields_of(scope: &Scope, header: &Header) -> usize
+    ensures { result ≡ fields_of scope.now.raw.now.header_types header.now }
 {
-    match left_out::type_of(types, header) {
+    match left_out::type_of(scope, header) {
         None => 0,
         Some(header_type) => header_type.fields.len(),
     }
 }
 
 #[tactic(auto, using(bm_records::proofs::Together::exceeds_most))]
-fn has_more_fields(most: usize, types: &Index<HeaderType<'_>>, headers: &[Header<'_>]) -> bool
-    ensures { result ≡ has_more_fields most types.now headers.now }
+fn has_more_fields(most: usize, scope: &Scope, headers: &[Header]) -> bool
+    ensures { result ≡ has_more_fields most scope.now.raw.now.header_types headers.now }
 {
     let mut room = most;
     for header in headers {
-        let count = fields_of(types, header);
+        let count = fields_of(scope, header);
         if count > room {
             return true;
         }
@@ -33,10 +31,43 @@ fn has_more_fields(most: usize, types: &Index<HeaderType<'_>>, headers: &[Header
     false
 }
 
-fn action_exceeds(action: &Action<'_>) -> bool
-    ensures { result ≡ action_exceeds action.now }
+/// What has limits of its own.
+trait Limited {
+    ghost exceeding: { Self → Bool };
+
+    /// Whether it exceeds one.
+    fn exceeds(&self) -> bool
+        ensures { result ≡ exceeding self.now };
+}
+
+fn any_exceeds<T: Limited>(items: &[T]) -> bool
+    ensures { result ≡ list_any T.exceeding items.now }
 {
-    action.runtime_data.len() > 8 || action.primitives.len() > 64
+    items.iter().any(|item| item.exceeds())
+}
+
+impl<'a> Limited for Action<'a> {
+    ghost exceeding = { action_exceeds };
+
+    fn exceeds(&self) -> bool {
+        self.runtime_data.len() > 8 || self.primitives.len() > 64
+    }
+}
+
+impl<'a> Limited for LearnList<'a> {
+    ghost exceeding = { λ list. nat_lt 128 (length list.elements) };
+
+    fn exceeds(&self) -> bool {
+        self.elements.len() > 128
+    }
+}
+
+impl<'a> Limited for Table<'a> {
+    ghost exceeding = { λ table. nat_lt 16 (length table.key) };
+
+    fn exceeds(&self) -> bool {
+        self.key.len() > 16
+    }
 }
 
 fn direct(counters: &[CounterArray<'_>]) -> usize
@@ -66,12 +97,6 @@ fn together_exceed(most: usize, first: usize, second: usize) -> bool
     second > most - first
 }
 
-fn keys_exceed(tables: &[Table<'_>]) -> bool
-    ensures { result ≡ list_any (λ table. nat_lt 16 (length table.key)) tables.now }
-{
-    tables.iter().any(|table| table.key.len() > 16)
-}
-
 fn pipelines_exceed(pipelines: &Pipelines<'_>) -> bool
     ensures { result ≡ pipelines_exceed pipelines.now }
 {
@@ -83,50 +108,38 @@ fn pipelines_exceed(pipelines: &Pipelines<'_>) -> bool
             ingress.action_profiles.len(),
             egress.action_profiles.len(),
         )
-        || keys_exceed(ingress.tables.as_slice())
-        || keys_exceed(egress.tables.as_slice())
+        || any_exceeds(ingress.tables.as_slice())
+        || any_exceeds(egress.tables.as_slice())
 }
 
-fn headers_exceed(types: &Index<HeaderType<'_>>, program: &RawProgram<'_>) -> bool
-    requires { types.now ≡ program.now.header_types }
-    ensures { result ≡ headers_exceed program.now }
+fn headers_exceed(scope: &Scope) -> bool
+    ensures { result ≡ headers_exceed scope.now.raw.now }
 {
-    program.headers.len() > 128 || has_more_fields(1024, types, program.headers.as_slice())
-}
-
-fn elements_exceed(lists: &[LearnList<'_>]) -> bool
-    ensures { result ≡ list_any (λ list. nat_lt 128 (length list.elements)) lists.now }
-{
-    lists.iter().any(|list| list.elements.len() > 128)
-}
-
-fn actions_exceed(actions: &[Action<'_>]) -> bool
-    ensures { result ≡ list_any action_exceeds actions.now }
-{
-    actions.iter().any(|action| action_exceeds(action))
+    let headers = scope.raw.headers.as_slice();
+    headers.len() > 128 || has_more_fields(1024, scope, headers)
 }
 
 fn learn_lists_exceed(lists: &[LearnList<'_>]) -> bool
     ensures { result ≡ learn_lists_exceed lists.now }
 {
-    lists.len() > 128 || elements_exceed(lists)
+    lists.len() > 128 || any_exceeds(lists)
 }
 
 fn objects_exceed(program: &RawProgram<'_>) -> bool
     ensures { result ≡ objects_exceed program.now }
 {
     program.actions.len() > 512
-        || actions_exceed(program.actions.as_slice())
+        || any_exceeds(program.actions.as_slice())
         || program.parser.parse_states.len() > 256
 }
 
-/// Whether the program, of which these are the header types, exceeds a limit.
+/// Whether the program exceeds a limit.
 #[tactic(auto, unfolding(crate::specs::Limits::exceeds))]
-pub(crate) fn exceeds(types: &Index<HeaderType<'_>>, program: &RawProgram<'_>) -> bool
-    requires { types.now ≡ program.now.header_types }
-    ensures { result ≡ exceeds program.now }
+pub(crate) fn exceeds(scope: &Scope) -> bool
+    ensures { result ≡ exceeds scope.now.raw.now }
 {
-    headers_exceed(types, program)
+    let program = scope.raw;
+    headers_exceed(scope)
         || counters_exceed(program.counter_arrays.as_slice())
         || pipelines_exceed(&program.pipelines)
         || learn_lists_exceed(program.learn_lists.as_slice())

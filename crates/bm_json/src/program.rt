@@ -6,6 +6,7 @@ ghost use Rattle.bm_records.specs.Objects.{error_of};
 ghost use Rattle.bm_json.specs.Program.{lists_state, lists_stacks, lists_left_out, program_of, json_in, program_in, flaw_of, Answers, Finds, IsOfRule};
 
 use crate::faults::JsonFault;
+use crate::scope::Scope;
 use crate::{left_out, limits};
 use bm_records::raw::{Deparser, ErrorNumber, Parser, RawProgram};
 use json_shapes::arrays::Only;
@@ -165,10 +166,15 @@ fn flaw_of(alloc: Global, program: &RawProgram<'_>) -> Result<Option<u8>, NoMemo
 {
     let types = Index::of(alloc, program.header_types.as_slice())?;
     let headers = Index::of(alloc, program.headers.as_slice())?;
-    if left_out::has_left_out(&types, &headers, program) {
+    let scope = Scope {
+        raw: program,
+        types,
+        headers,
+    };
+    if left_out::has_left_out(&scope) {
         return Ok(Some(2));
     }
-    if limits::exceeds(&types, program) {
+    if limits::exceeds(&scope) {
         return Ok(Some(3));
     }
     Ok(None)

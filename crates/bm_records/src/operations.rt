@@ -1,6 +1,7 @@
 //! Kinds of primitives and of parsers' operations, by their names in JSON.
 ghost use Rattle.std.specs.Prelude.{◌≡◌, nat_eq};
 ghost use Rattle.std.specs.List.{starts_with};
+ghost use Rattle.std.specs.Str.{bytes_eq};
 ghost use Rattle.bm_records.specs.Operations.{begins_left_out, is_named_left_out, is_left_out_primitive, primitive_kind, parser_op_kind};
 
 /// The kind of a primitive.
@@ -16,6 +17,13 @@ pub(crate) enum PrimitiveKind {
     NoOp,
     LeftOut,
     Unknown,
+}
+
+// For many names cheaper to check than `==`, which borrows both texts once more.
+pub(crate) fn is(text: &str, name: &str) -> bool
+    ensures { result ≡ bytes_eq text.now name.now }
+{
+    text == name
 }
 
 fn begins_with(op: &str, beginning: &str) -> bool
@@ -36,13 +44,13 @@ fn begins_left_out(op: &str) -> bool
 fn is_named_left_out(op: &str) -> bool
     ensures { result ≡ is_named_left_out op.now }
 {
-    op == "resubmit"
-        || op == "recirculate"
-        || op == "execute_meter"
-        || op == "push"
-        || op == "pop"
-        || op == "assign_header_stack"
-        || op == "remove_union"
+    is(op, "resubmit")
+        || is(op, "recirculate")
+        || is(op, "execute_meter")
+        || is(op, "push")
+        || is(op, "pop")
+        || is(op, "assign_header_stack")
+        || is(op, "remove_union")
 }
 
 fn is_left_out_primitive(op: &str) -> bool
@@ -55,21 +63,21 @@ fn is_left_out_primitive(op: &str) -> bool
 pub(crate) fn primitive_kind(op: &str) -> PrimitiveKind
     ensures { result ≡ primitive_kind op.now }
 {
-    if op == "assign" {
+    if is(op, "assign") {
         PrimitiveKind::Assign
-    } else if op == "add_header" {
+    } else if is(op, "add_header") {
         PrimitiveKind::AddHeader
-    } else if op == "remove_header" {
+    } else if is(op, "remove_header") {
         PrimitiveKind::RemoveHeader
-    } else if op == "assign_header" {
+    } else if is(op, "assign_header") {
         PrimitiveKind::AssignHeader
-    } else if op == "mark_to_drop" || op == "drop" {
+    } else if is(op, "mark_to_drop") || is(op, "drop") {
         PrimitiveKind::Drop
-    } else if op == "count" {
+    } else if is(op, "count") {
         PrimitiveKind::Count
-    } else if op == "generate_digest" {
+    } else if is(op, "generate_digest") {
         PrimitiveKind::GenerateDigest
-    } else if op == "no_op" {
+    } else if is(op, "no_op") {
         PrimitiveKind::NoOp
     } else if is_left_out_primitive(op) {
         PrimitiveKind::LeftOut
@@ -90,11 +98,11 @@ pub(crate) enum ParserOpKind {
 pub(crate) fn parser_op_kind(op: &str) -> ParserOpKind
     ensures { result ≡ parser_op_kind op.now }
 {
-    if op == "extract" {
+    if is(op, "extract") {
         ParserOpKind::Extract
-    } else if op == "set" {
+    } else if is(op, "set") {
         ParserOpKind::Set
-    } else if op == "extract_VL" || op == "verify" {
+    } else if is(op, "extract_VL") || is(op, "verify") {
         ParserOpKind::LeftOut
     } else {
         ParserOpKind::Unknown

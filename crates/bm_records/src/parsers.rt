@@ -5,7 +5,7 @@ ghost use Rattle.json_tree.specs.View.{view};
 ghost use Rattle.json_shapes.specs.Shapes.{ReadsExactly, Reads};
 ghost use Rattle.bm_records.specs.Parsers.{extracted_by, extracted, set_of, parser_op_by, parser_op_of, match_text, match_by, match_of, transition_of, state_of, parser_of, deparser_of};
 
-use crate::operations::{self, ParserOpKind};
+use crate::operations::{self, ParserOpKind, is};
 use crate::raw::{Deparser, MatchValue, ParseState, Parser, ParserOp, Part, Transition};
 use bm_values::kinds::ValueKind;
 use bm_values::{literals, values};
@@ -101,7 +101,7 @@ impl<'a> FromJson<'a> for ParserOp<'a> {
 fn match_text(text: &str) -> Result<MatchValue, OtherShape>
     ensures { ReadsExactly result (match_text text.now) }
 {
-    if text == "default" {
+    if is(text, "default") {
         return Ok(MatchValue::Default);
     }
     match literals::literal_text(text.as_bytes()) {
@@ -129,11 +129,11 @@ fn match_by<'a>(kind: &Option<Name<'a>>, value: &Element<'a>) -> Result<MatchVal
     match kind {
         None => match_value(value),
         Some(kind) => {
-            if kind.as_str() == "default" {
+            if is(kind.as_str(), "default") {
                 Ok(MatchValue::Default)
-            } else if kind.as_str() == "hexstr" {
+            } else if is(kind.as_str(), "hexstr") {
                 match_value(value)
-            } else if kind.as_str() == "parse_vset" {
+            } else if is(kind.as_str(), "parse_vset") {
                 Ok(MatchValue::LeftOut)
             } else {
                 Err(OtherShape)

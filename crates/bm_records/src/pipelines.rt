@@ -9,6 +9,7 @@ ghost use Rattle.list_types.specs.declared.memory.Refusal.TheVariants as refusal
 ghost use Rattle.json_shapes.specs.Shapes.{ReadsExactly, Reads};
 ghost use Rattle.bm_records.specs.Pipelines.{match_kind, key_field_of, table_kind, profile_by, next_table, each_next, next_tables_of, as_many, default_of, table_of, selector_of, profile_of, conditional_of, gress, pipeline_of, sides, pipelines_of};
 
+use crate::operations::is;
 use crate::raw::{
     ActionProfile, Conditional, DefaultEntry, Gress, KeyField, NextTable, Pipeline, Pipelines,
     Selector, Table, TableKind,
@@ -23,15 +24,15 @@ use std::alloc::Global;
 fn match_kind(text: &str) -> Result<MatchKind, OtherShape>
     ensures { ReadsExactly result (match_kind text.now) }
 {
-    if text == "exact" {
+    if is(text, "exact") {
         Ok(MatchKind::Exact)
-    } else if text == "lpm" {
+    } else if is(text, "lpm") {
         Ok(MatchKind::Lpm)
-    } else if text == "ternary" {
+    } else if is(text, "ternary") {
         Ok(MatchKind::Ternary)
-    } else if text == "range" {
+    } else if is(text, "range") {
         Ok(MatchKind::Range)
-    } else if text == "optional" {
+    } else if is(text, "optional") {
         Ok(MatchKind::Optional)
     } else {
         Err(OtherShape)
@@ -58,11 +59,11 @@ impl<'a> FromJson<'a> for KeyField<'a> {
 fn table_kind(text: &str) -> Result<TableKind, OtherShape>
     ensures { ReadsExactly result (table_kind text.now) }
 {
-    if text == "simple" {
+    if is(text, "simple") {
         Ok(TableKind::Simple)
-    } else if text == "indirect" {
+    } else if is(text, "indirect") {
         Ok(TableKind::Indirect)
-    } else if text == "indirect_ws" {
+    } else if is(text, "indirect_ws") {
         Ok(TableKind::IndirectWithSelector)
     } else {
         Err(OtherShape)
@@ -312,9 +313,9 @@ impl<'a> FromJson<'a> for Conditional<'a> {
 fn gress(text: &str) -> Result<Gress, OtherShape>
     ensures { ReadsExactly result (gress text.now) }
 {
-    if text == "ingress" {
+    if is(text, "ingress") {
         Ok(Gress::Ingress)
-    } else if text == "egress" {
+    } else if is(text, "egress") {
         Ok(Gress::Egress)
     } else {
         Err(OtherShape)

@@ -8,16 +8,26 @@ use json_shapes::Name;
 use list_types::List;
 use p4_types::info::MatchKind;
 
+// A record of many parts has a Drop written out, so that those who let one go need not look into it.
+
 #[derive(Drop)]
 pub struct TypeField<'a> {
     pub name: Name<'a>,
     pub width: RawWidth,
 }
 
-#[derive(Drop)]
 pub struct HeaderType<'a> {
     pub name: Name<'a>,
     pub fields: List<TypeField<'a>>,
+}
+
+impl<'a> Drop for HeaderType<'a> {
+    fn drop(self) {
+        let Self {
+            name: _name,
+            fields: _fields,
+        } = self;
+    }
 }
 
 #[derive(Drop)]
@@ -73,12 +83,22 @@ pub struct Datum {
     pub width: RawWidth,
 }
 
-#[derive(Drop)]
 pub struct Action<'a> {
     pub name: Name<'a>,
     pub id: u64,
     pub runtime_data: List<Datum>,
     pub primitives: List<Primitive<'a>>,
+}
+
+impl<'a> Drop for Action<'a> {
+    fn drop(self) {
+        let Self {
+            name: _name,
+            id: _,
+            runtime_data: _runtime_data,
+            primitives: _primitives,
+        } = self;
+    }
 }
 
 /// An operation of a parser's state.
@@ -110,12 +130,22 @@ pub struct Transition<'a> {
     pub next_state: Option<Name<'a>>,
 }
 
-#[derive(Drop)]
 pub struct ParseState<'a> {
     pub name: Name<'a>,
     pub parser_ops: List<ParserOp<'a>>,
     pub transition_key: List<RawField<'a>>,
     pub transitions: List<Transition<'a>>,
+}
+
+impl<'a> Drop for ParseState<'a> {
+    fn drop(self) {
+        let Self {
+            name: _name,
+            parser_ops: _parser_ops,
+            transition_key: _transition_key,
+            transitions: _transitions,
+        } = self;
+    }
 }
 
 #[derive(Drop)]
@@ -145,14 +175,22 @@ pub enum CalculationInput<'a> {
     LeftOut,
 }
 
-#[derive(Drop)]
 pub struct Calculation<'a> {
     pub name: Name<'a>,
     pub algo: Name<'a>,
     pub input: List<CalculationInput<'a>>,
 }
 
-#[derive(Drop)]
+impl<'a> Drop for Calculation<'a> {
+    fn drop(self) {
+        let Self {
+            name: _name,
+            algo: _algo,
+            input: _input,
+        } = self;
+    }
+}
+
 pub struct Checksum<'a> {
     pub name: Name<'a>,
     pub target: FieldName<'a>,
@@ -162,11 +200,33 @@ pub struct Checksum<'a> {
     pub if_cond: Option<Expression<'a>>,
 }
 
-#[derive(Drop)]
+impl<'a> Drop for Checksum<'a> {
+    fn drop(self) {
+        let Self {
+            name: _name,
+            target: _target,
+            calculation: _calculation,
+            update: _,
+            verify: _,
+            if_cond: _if_cond,
+        } = self;
+    }
+}
+
 pub struct LearnList<'a> {
     pub name: Name<'a>,
     pub id: u64,
     pub elements: List<RawField<'a>>,
+}
+
+impl<'a> Drop for LearnList<'a> {
+    fn drop(self) {
+        let Self {
+            name: _name,
+            id: _,
+            elements: _elements,
+        } = self;
+    }
 }
 
 /// A field of a table's key.
@@ -197,7 +257,6 @@ pub struct DefaultEntry {
     pub action_data: List<RawLiteral>,
 }
 
-#[derive(Drop)]
 pub struct Table<'a> {
     pub name: Name<'a>,
     pub key: List<KeyField<'a>>,
@@ -215,6 +274,23 @@ pub struct Table<'a> {
     pub has_entries: bool,
 }
 
+impl<'a> Drop for Table<'a> {
+    fn drop(self) {
+        let Self {
+            name: _name,
+            key: _key,
+            kind: _,
+            action_profile: _action_profile,
+            action_ids: _action_ids,
+            actions: _actions,
+            next_tables: _next_tables,
+            base_default_next: _base_default_next,
+            default_entry: _default_entry,
+            has_entries: _,
+        } = self;
+    }
+}
+
 #[derive(Drop)]
 pub struct Selector<'a> {
     pub input: List<RawField<'a>>,
@@ -226,12 +302,22 @@ pub struct ActionProfile<'a> {
     pub selector: Option<Selector<'a>>,
 }
 
-#[derive(Drop)]
 pub struct Conditional<'a> {
     pub name: Name<'a>,
     pub expression: Expression<'a>,
     pub true_next: Option<Name<'a>>,
     pub false_next: Option<Name<'a>>,
+}
+
+impl<'a> Drop for Conditional<'a> {
+    fn drop(self) {
+        let Self {
+            name: _name,
+            expression: _expression,
+            true_next: _true_next,
+            false_next: _false_next,
+        } = self;
+    }
 }
 
 #[derive(Clone, Copy)]
@@ -240,13 +326,24 @@ pub enum Gress {
     Egress,
 }
 
-#[derive(Drop)]
 pub struct Pipeline<'a> {
     pub gress: Gress,
     pub init_table: Option<Name<'a>>,
     pub tables: List<Table<'a>>,
     pub action_profiles: List<ActionProfile<'a>>,
     pub conditionals: List<Conditional<'a>>,
+}
+
+impl<'a> Drop for Pipeline<'a> {
+    fn drop(self) {
+        let Self {
+            gress: _,
+            init_table: _init_table,
+            tables: _tables,
+            action_profiles: _action_profiles,
+            conditionals: _conditionals,
+        } = self;
+    }
 }
 
 #[derive(Drop)]
@@ -272,7 +369,6 @@ pub struct RawProgram<'a> {
     pub lists_left_out: bool,
 }
 
-// Written out, so that those who let one go need not look into it.
 impl<'a> Drop for RawProgram<'a> {
     fn drop(self) {
         let Self {

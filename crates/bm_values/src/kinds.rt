@@ -1,5 +1,6 @@
 //! Kinds of values and operators, by their names in JSON.
 ghost use Rattle.std.specs.Prelude.{◌≡◌};
+ghost use Rattle.std.specs.Str.{bytes_eq};
 ghost use Rattle.bm_values.specs.Kinds.{is_left_out_kind, value_kind, sum_operator, bit_operator, comparison, connective, binary_operator, unary_operator, operation_of, is_left_out_operator};
 
 use crate::raw::{BinaryOperator, UnaryOperator};
@@ -31,22 +32,29 @@ pub enum Operation {
     Choice,
 }
 
+// For many names cheaper to check than `==`, which borrows both texts once more.
+fn is(text: &str, name: &str) -> bool
+    ensures { result ≡ bytes_eq text.now name.now }
+{
+    text == name
+}
+
 fn is_left_out_kind(kind: &str) -> bool
     ensures { result ≡ is_left_out_kind kind.now }
 {
-    kind == "header_stack"
-        || kind == "stack"
-        || kind == "stack_field"
-        || kind == "header_union"
-        || kind == "union"
-        || kind == "union_stack"
-        || kind == "union_stack_field"
-        || kind == "header_union_stack"
-        || kind == "register_array"
-        || kind == "register"
-        || kind == "meter_array"
-        || kind == "extern"
-        || kind == "lookahead"
+    is(kind, "header_stack")
+        || is(kind, "stack")
+        || is(kind, "stack_field")
+        || is(kind, "header_union")
+        || is(kind, "union")
+        || is(kind, "union_stack")
+        || is(kind, "union_stack_field")
+        || is(kind, "header_union_stack")
+        || is(kind, "register_array")
+        || is(kind, "register")
+        || is(kind, "meter_array")
+        || is(kind, "extern")
+        || is(kind, "lookahead")
 }
 
 /// The kind that a value's `type` names.
@@ -54,23 +62,23 @@ fn is_left_out_kind(kind: &str) -> bool
 pub fn value_kind(kind: &str) -> ValueKind
     ensures { result ≡ value_kind kind.now }
 {
-    if kind == "field" {
+    if is(kind, "field") {
         ValueKind::Field
-    } else if kind == "hexstr" {
+    } else if is(kind, "hexstr") {
         ValueKind::Literal
-    } else if kind == "bool" {
+    } else if is(kind, "bool") {
         ValueKind::Truth
-    } else if kind == "runtime_data" || kind == "local" {
+    } else if is(kind, "runtime_data") || is(kind, "local") {
         ValueKind::Datum
-    } else if kind == "expression" {
+    } else if is(kind, "expression") {
         ValueKind::Expression
-    } else if kind == "header" {
+    } else if is(kind, "header") {
         ValueKind::Header
-    } else if kind == "regular" {
+    } else if is(kind, "regular") {
         ValueKind::Regular
-    } else if kind == "counter_array" {
+    } else if is(kind, "counter_array") {
         ValueKind::CounterArray
-    } else if kind == "learn_list" {
+    } else if is(kind, "learn_list") {
         ValueKind::LearnList
     } else if is_left_out_kind(kind) {
         ValueKind::LeftOut
@@ -82,15 +90,15 @@ pub fn value_kind(kind: &str) -> ValueKind
 fn sum_operator(op: &str) -> Option<BinaryOperator>
     ensures { result ≡ sum_operator op.now }
 {
-    if op == "+" {
+    if is(op, "+") {
         Some(BinaryOperator::Add)
-    } else if op == "-" {
+    } else if is(op, "-") {
         Some(BinaryOperator::Subtract)
-    } else if op == "*" {
+    } else if is(op, "*") {
         Some(BinaryOperator::Multiply)
-    } else if op == "<<" {
+    } else if is(op, "<<") {
         Some(BinaryOperator::ShiftLeft)
-    } else if op == ">>" {
+    } else if is(op, ">>") {
         Some(BinaryOperator::ShiftRight)
     } else {
         None
@@ -100,11 +108,11 @@ fn sum_operator(op: &str) -> Option<BinaryOperator>
 fn bit_operator(op: &str) -> Option<BinaryOperator>
     ensures { result ≡ bit_operator op.now }
 {
-    if op == "&" {
+    if is(op, "&") {
         Some(BinaryOperator::BitAnd)
-    } else if op == "|" {
+    } else if is(op, "|") {
         Some(BinaryOperator::BitOr)
-    } else if op == "^" {
+    } else if is(op, "^") {
         Some(BinaryOperator::BitXor)
     } else {
         None
@@ -114,17 +122,17 @@ fn bit_operator(op: &str) -> Option<BinaryOperator>
 fn comparison(op: &str) -> Option<BinaryOperator>
     ensures { result ≡ comparison op.now }
 {
-    if op == "==" {
+    if is(op, "==") {
         Some(BinaryOperator::Equal)
-    } else if op == "!=" {
+    } else if is(op, "!=") {
         Some(BinaryOperator::NotEqual)
-    } else if op == "<" {
+    } else if is(op, "<") {
         Some(BinaryOperator::Less)
-    } else if op == "<=" {
+    } else if is(op, "<=") {
         Some(BinaryOperator::LessOrEqual)
-    } else if op == ">" {
+    } else if is(op, ">") {
         Some(BinaryOperator::Greater)
-    } else if op == ">=" {
+    } else if is(op, ">=") {
         Some(BinaryOperator::GreaterOrEqual)
     } else {
         None
@@ -134,9 +142,9 @@ fn comparison(op: &str) -> Option<BinaryOperator>
 fn connective(op: &str) -> Option<BinaryOperator>
     ensures { result ≡ connective op.now }
 {
-    if op == "and" {
+    if is(op, "and") {
         Some(BinaryOperator::And)
-    } else if op == "or" {
+    } else if is(op, "or") {
         Some(BinaryOperator::Or)
     } else {
         None
@@ -162,13 +170,13 @@ fn binary_operator(op: &str) -> Option<BinaryOperator>
 fn unary_operator(op: &str) -> Option<UnaryOperator>
     ensures { result ≡ unary_operator op.now }
 {
-    if op == "~" {
+    if is(op, "~") {
         Some(UnaryOperator::BitNot)
-    } else if op == "not" {
+    } else if is(op, "not") {
         Some(UnaryOperator::Not)
-    } else if op == "d2b" {
+    } else if is(op, "d2b") {
         Some(UnaryOperator::ToTruth)
-    } else if op == "b2d" {
+    } else if is(op, "b2d") {
         Some(UnaryOperator::ToNumber)
     } else {
         None
@@ -180,10 +188,10 @@ fn unary_operator(op: &str) -> Option<UnaryOperator>
 pub fn operation_of(op: &str) -> Option<Operation>
     ensures { result ≡ operation_of op.now }
 {
-    if op == "valid" {
+    if is(op, "valid") {
         return Some(Operation::Valid);
     }
-    if op == "?" {
+    if is(op, "?") {
         return Some(Operation::Choice);
     }
     if let Some(operator) = unary_operator(op) {
@@ -200,14 +208,14 @@ pub fn operation_of(op: &str) -> Option<Operation>
 pub fn is_left_out_operator(op: &str) -> bool
     ensures { result ≡ is_left_out_operator op.now }
 {
-    op == "sat_cast"
-        || op == "usat_cast"
-        || op == "two_comp_mod"
-        || op == "dereference_header_stack"
-        || op == "dereference_union_stack"
-        || op == "last_stack_index"
-        || op == "size_stack"
-        || op == "access_field"
-        || op == "access_union_header"
-        || op == "valid_union"
+    is(op, "sat_cast")
+        || is(op, "usat_cast")
+        || is(op, "two_comp_mod")
+        || is(op, "dereference_header_stack")
+        || is(op, "dereference_union_stack")
+        || is(op, "last_stack_index")
+        || is(op, "size_stack")
+        || is(op, "access_field")
+        || is(op, "access_union_header")
+        || is(op, "valid_union")
 }
