@@ -1,11 +1,31 @@
-//! A row from the opening of its desk to the end of it.
+//! A row of a desk: what callers and workers do at the desk of a switch that serves, each row at a desk of its own, and what they get
+//! of it.
+//!
+//! A row has what the desk opens with, and steps, with tabs between them. A desk opens with so many workers, and with the bridge or
+//! with no program (`1 bridge`, `2 -`); its device is 1, and packets of controllers enter at port 255. Each step is answered on a line
+//! of its own:
+//!
+//! - `call LANE METHOD HEX`, as a connection asks: the reply's code and messages, the notices that the caller is told with it, and the
+//!   packet that it makes enter. `leave LANE` is the end of the caller's stream.
+//! - `next LANE NOW`, as a connection asks: what the lane is given, a message or an output or an overflow, or nothing, and how many
+//!   steps its pass then knows.
+//! - `packet WORKER PORT NOW HEX`, which comes at the worker's ports: after how many steps it is run, the lane of the primary then, and
+//!   what is put at a port. What it gives to controllers is handed on.
+//! - `run WORKER PORT HEX`: the same and the packet's fate, of a packet that comes at no ports. What it gives to controllers is handed on
+//!   only by `deliver WORKER NOW`.
+//! - `tell LANE LANE`: the second learns what the first tells, and how many steps it then knows.
+//! - `repeat N STEP;STEP`: these steps so often, the same answers in a row told once, behind their number.
+//!
+//! METHOD is `write`, `read`, `set`, `get`, `stream` or `capabilities`, HEX is bytes, of which `.` has none, and NOW is in nanoseconds.
+//! In the end the desk is closed and each pass is compared with it, and the number of steps is told.
 ghost use Rattle.std.specs.Prelude.{◌≡◌};
 ghost use Rattle.live_desk.specs.Opening.{AreParts};
 
-use crate::stage::Stage;
+use crate::stage::{Stage, verdicts_of};
 use crate::steps::answer_steps;
 use live_desk::{LiveDesk, Naming, Parts, Pass, open_desk, open_parts};
 use p4_types::events::Start;
+use pkt_worker::Verdict;
 use pub_snap::Publisher;
 use row_lines::{NoAnswer, say};
 use std::alloc::Global;
@@ -25,8 +45,10 @@ fn close<J: Naming, R: Wait + Drop, W: Wait>(
     let mut closed = desk.finish();
     for mut pass in passes {
         closed.agree(rt, &mut pass);
+        drop(pass);
     }
     let steps = closed.told().len();
+    drop(closed);
     write!(told, "\n> end {steps}")?;
     Ok(())
 }
@@ -38,6 +60,7 @@ fn play<'a, J: Naming, T: Wait>(
     start: Start,
     publisher: Publisher<&'a T>,
     parts: Parts,
+    verdicts: Vec<Verdict>,
     steps: &[&str],
     told: &mut String,
 ) -> Result<(), NoAnswer>
@@ -51,15 +74,26 @@ fn play<'a, J: Naming, T: Wait>(
     else {
         return Err(NoAnswer);
     };
-    let mut stage = Stage::open(rt, alloc, desk, passes, workers)?;
+    let mut stage = Stage {
+        rt,
+        desk,
+        passes,
+        workers,
+        verdicts,
+    };
+    // The desk gives the highest lane first.
+    stage.passes.reverse();
     say(told, "open");
     let done = answer_steps(alloc, &mut stage, steps, told);
     let Stage {
         rt: _,
         desk,
         passes,
-        carriers: _,
+        workers,
+        verdicts,
     } = stage;
+    drop(workers);
+    drop(verdicts);
     close(rt, desk, passes, told)?;
     done
 }
@@ -82,7 +116,6 @@ fn opening_of(words: &str) -> Result<(usize, Start), NoAnswer> {
 pub fn answer<T: Wait>(
     rt: &T,
     alloc: Global,
-    kind: &str,
     asked: &[&str],
     told: &mut String,
 ) -> Result<(), NoAnswer> {
@@ -90,11 +123,12 @@ pub fn answer<T: Wait>(
         return Err(NoAnswer);
     };
     let (workers, start) = opening_of(words)?;
-    if kind != "desk" || workers > MOST_WORKERS {
+    if workers > MOST_WORKERS {
         return Err(NoAnswer);
     }
+    let verdicts = verdicts_of(alloc, workers)?;
     let Ok((publisher, parts)) = open_parts(rt, alloc, &start, workers) else {
         return Err(NoAnswer);
     };
-    play::<Brand, T>(rt, alloc, start, publisher, parts, steps, told)
+    play::<Brand, T>(rt, alloc, start, publisher, parts, verdicts, steps, told)
 }
