@@ -1,5 +1,6 @@
 // Four threads make calls under a lock.
-ghost use Rattle.std.specs.Prelude.{◌≡◌, ◌+◌, [], IfOk, OnOk};
+ghost use Rattle.std.specs.Prelude.{◌≡◌, ◌+◌, [], OnOk};
+ghost use Rattle.lane_table.specs.Lanes.{new_journal};
 ghost use Rattle.lane_tests.specs.Made.{steps_in, four_lanes, unused};
 
 use lane_table::{JournalSeat, LaneSeat, LaneTable};
@@ -12,7 +13,7 @@ use std::marker::{Brand, Model, PhantomData};
 use std::process::Abort;
 use std::sync::{Mutex, Wait};
 use std::test::Fail;
-use std::thread::{Threads, join};
+use std::thread::{Threads, for_each_mut};
 
 const CALLS: u32 = 20_000;
 
@@ -30,11 +31,21 @@ impl Naming for Brand {
 }
 
 // What lies under the lock.
-#[derive(Drop)]
 struct Shared<J: Naming> {
     seat: JournalSeat<Entry>,
     journal: Vec<Entry>,
     of: PhantomData<J>,
+}
+
+// Written out, as that of a lane is, so that those who let one go need not look into it.
+impl<J: Naming> Drop for Shared<J> {
+    fn drop(self) {
+        let Self {
+            seat: _seat,
+            journal: _journal,
+            of: _,
+        } = self;
+    }
 }
 
 impl<J: Naming> Model for Shared<J> {
@@ -50,12 +61,22 @@ impl<J: Naming> Model for Shared<J> {
 }
 
 // A lane, and the steps of the answers to its calls.
-#[derive(Drop)]
 struct Pass<J: Naming> {
     seat: LaneSeat<Entry>,
     lane: u16,
     steps: Vec<u64>,
     of: PhantomData<J>,
+}
+
+impl<J: Naming> Drop for Pass<J> {
+    fn drop(self) {
+        let Self {
+            seat: _seat,
+            lane: _,
+            steps: _steps,
+            of: _,
+        } = self;
+    }
 }
 
 impl<J: Naming> Model for Pass<J> {
@@ -95,7 +116,29 @@ fn answer(alloc: Global, steps: u64) -> Reply
     }
 }
 
+fn entry_of(alloc: Global, lane: u16, steps: u64) -> Entry
+    ensures { (result.lane ≡ lane) × (result.reply.steps ≡ steps) }
+{
+    Entry {
+        lane,
+        call: 1,
+        steps: List::new(alloc),
+        reply: answer(alloc, steps),
+    }
+}
+
 impl<J: Naming> Shared<J> {
+    fn new(alloc: Global, seat: JournalSeat<Entry>) -> Shared<J>
+        requires { seat ≡ four_lanes J.table [] }
+        ensures { result ≡ [] }
+    {
+        Shared {
+            seat,
+            journal: Vec::new(alloc),
+            of: PhantomData,
+        }
+    }
+
     // The lane's next call, which is the journal's next entry.
     fn make(
         &mut self,
@@ -109,12 +152,7 @@ impl<J: Naming> Shared<J> {
         self.journal.reserve(1)?;
         pass.steps.reserve(1)?;
         let steps = self.journal.len() as u64;
-        let entry = Entry {
-            lane: pass.lane,
-            call: 1,
-            steps: List::new(alloc),
-            reply: answer(alloc, steps),
-        };
+        let entry = entry_of(alloc, pass.lane, steps);
         table.sign(&mut self.seat, &mut pass.seat, &entry);
         self.journal.push_reserved(entry);
         pass.steps.push_reserved(steps);
@@ -131,44 +169,38 @@ impl<J: Naming> Shared<J> {
     }
 }
 
+// The calls of a lane. It makes fewer where memory is short, and then the pass is not whole.
 fn make_all<J: Naming, R: Wait>(
     rt: &R,
     alloc: Global,
     table: &LaneTable<Entry>,
     shared: &Mutex<Shared<J>>,
-    pass: Pass<J>,
-) -> Result<Pass<J>, NoMemory>
+    pass: &mut Pass<J>,
+)
     requires { table.now ≡ J.table }
-    ensures { IfOk result (λ p. p.lane ≡ pass.lane) }
+    ensures { pass.new.lane ≡ pass.old.lane }
 {
-    let mut pass = pass;
     for _ in 0..CALLS {
-        shared.lock(rt).make(alloc, table, &mut pass)?;
+        if shared.lock(rt).make(alloc, table, pass).is_err() {
+            return;
+        }
     }
-    Ok(pass)
 }
 
-type Two<J> = (Result<Pass<J>, NoMemory>, Result<Pass<J>, NoMemory>);
-
-fn make_by_two<J: Naming + Send + Sync, R: Threads + Wait + Sync>(
+// Makes the calls of each lane, each lane on a thread of its own.
+fn make_in_threads<J: Naming + Send + Sync, R: Threads + Wait + Sync>(
     rt: &R,
     alloc: Global,
     table: &LaneTable<Entry>,
     shared: &Mutex<Shared<J>>,
-    one: Pass<J>,
-    two: Pass<J>,
-) -> Two<J>
+    passes: &mut [Pass<J>],
+)
     requires { table.now ≡ J.table }
 {
-    join(
-        rt,
-        move || -> Result<Pass<J>, NoMemory>
-            requires { table.now ≡ J.table }
-        { make_all(rt, alloc, table, shared, one) },
-        move || -> Result<Pass<J>, NoMemory>
-            requires { table.now ≡ J.table }
-        { make_all(rt, alloc, table, shared, two) },
-    )
+    let make = move |_place: usize, pass: &mut Pass<J>|
+        requires { table.now ≡ J.table }
+    { make_all(rt, alloc, table, shared, pass) };
+    for_each_mut(rt, passes, 4, &make);
 }
 
 // Whether the journal's entries of a lane are just the calls that its pass has made.
@@ -189,72 +221,61 @@ fn check<J: Naming, R: Abort>(
     rt: &R,
     table: &LaneTable<Entry>,
     shared: &mut Shared<J>,
-    pass: Result<Pass<J>, NoMemory>,
-) -> Result<(), NoMemory>
+    passes: &mut [Pass<J>],
+)
     requires { table.now ≡ J.table }
 {
-    let mut pass = pass?;
-    shared.compare(table, &mut pass);
-    assert!(rt; is_whole(shared.journal.as_slice(), pass.lane, pass.steps.as_slice()));
-    Ok(())
+    for place in 0..passes.len() {
+        let pass = &mut passes[place];
+        shared.compare(table, pass);
+        assert!(rt; is_whole(shared.journal.as_slice(), pass.lane, pass.steps.as_slice()));
+    }
+    table.confirm_lanes(&mut shared.seat);
+    assert!(rt; passes.len() == 4 && shared.journal.len() == 4 * CALLS as usize);
+}
+
+// Claims four lanes.
+fn claim_four<J: Naming>(
+    alloc: Global,
+    table: &LaneTable<Entry>,
+    seat: &mut JournalSeat<Entry>,
+) -> Result<Vec<Pass<J>>, NoMemory>
+    requires table { table.now ≡ J.table }
+    requires seat { seat.old ≡ new_journal J.table }
+    ensures { OnOk result (seat.new ≡ four_lanes J.table []) }
+{
+    let mut passes = Vec::new(alloc);
+    passes.push(Pass::<J>::new(alloc, table.claim(seat), 0))?;
+    passes.push(Pass::<J>::new(alloc, table.claim(seat), 1))?;
+    passes.push(Pass::<J>::new(alloc, table.claim(seat), 2))?;
+    passes.push(Pass::<J>::new(alloc, table.claim(seat), 3))?;
+    Ok(passes)
 }
 
 fn make_by_four<J: Naming + Send + Sync, R: Threads + Wait + Abort + Sync>(
     rt: &R,
     alloc: Global,
-    table: LaneTable<Entry>,
+    table: &LaneTable<Entry>,
     seat: JournalSeat<Entry>,
-    lanes: (
-        LaneSeat<Entry>,
-        LaneSeat<Entry>,
-        LaneSeat<Entry>,
-        LaneSeat<Entry>,
-    ),
 ) -> Result<(), NoMemory>
-    requires table { table ≡ J.table }
-    requires seat { seat ≡ four_lanes J.table [] }
-    requires first { lanes.0 ≡ unused J.table 0 }
-    requires second { lanes.1 ≡ unused J.table 1 }
-    requires third { lanes.2 ≡ unused J.table 2 }
-    requires fourth { lanes.3 ≡ unused J.table 3 }
+    requires table { table.now ≡ J.table }
+    requires seat { seat ≡ new_journal J.table }
 {
-    let (one, two, three, four) = lanes;
-    let shared = Mutex::new(Shared::<J> {
-        seat,
-        journal: Vec::new(alloc),
-        of: PhantomData,
-    });
-    let one = Pass::<J>::new(alloc, one, 0);
-    let two = Pass::<J>::new(alloc, two, 1);
-    let three = Pass::<J>::new(alloc, three, 2);
-    let four = Pass::<J>::new(alloc, four, 3);
-    let ((one, two), (three, four)) = join(
-        rt,
-        || -> Two<J>
-            requires { table ≡ J.table }
-        { make_by_two(rt, alloc, &table, &shared, one, two) },
-        || -> Two<J>
-            requires { table ≡ J.table }
-        { make_by_two(rt, alloc, &table, &shared, three, four) },
-    );
+    let mut seat = seat;
+    let mut passes = claim_four::<J>(alloc, table, &mut seat)?;
+    let shared = Mutex::new(Shared::<J>::new(alloc, seat));
+    make_in_threads(rt, alloc, table, &shared, passes.as_mut_slice());
     let mut shared = shared.into_inner();
-    check(rt, &table, &mut shared, one)?;
-    check(rt, &table, &mut shared, two)?;
-    check(rt, &table, &mut shared, three)?;
-    check(rt, &table, &mut shared, four)?;
-    table.confirm_lanes(&mut shared.seat);
-    assert!(rt; shared.journal.len() == 4 * CALLS as usize);
+    check(rt, table, &mut shared, passes.as_mut_slice());
+    drop(shared);
+    drop(passes);
     Ok(())
 }
 
 #[test]
 fn four_threads_make_the_calls_of_one_journal(rt: HostRuntime) -> Result<(), Fail> {
-    let (table, mut seat) = LaneTable::<Entry>::open(rt.alloc())?;
-    let one = table.claim(&mut seat);
-    let two = table.claim(&mut seat);
-    let three = table.claim(&mut seat);
-    let four = table.claim(&mut seat);
-    make_by_four::<Brand, _>(&rt, rt.alloc(), table, seat, (one, two, three, four))?;
+    let (table, seat) = LaneTable::<Entry>::open(rt.alloc())?;
+    make_by_four::<Brand, _>(&rt, rt.alloc(), &table, seat)?;
     Ok(())
 }
 
@@ -263,12 +284,7 @@ fn a_note_is_confirmed_later(rt: HostRuntime) -> Result<(), Fail> {
     let (table, mut seat) = LaneTable::<Entry>::open(rt.alloc())?;
     let mut lane = table.claim(&mut seat);
     let mut note = table.note(&mut seat);
-    let entry = Entry {
-        lane: 0,
-        call: 1,
-        steps: List::new(rt.alloc()),
-        reply: answer(rt.alloc(), 1),
-    };
+    let entry = entry_of(rt.alloc(), 0, 1);
     table.sign(&mut seat, &mut lane, &entry);
     table.confirm(&mut seat, &mut note);
     table.compare(&mut seat, &mut lane);

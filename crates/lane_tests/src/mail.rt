@@ -22,14 +22,41 @@ fn notify(alloc: Global, mail: &mut Mail<u32>, lane: u16, count: u32)
     }
 }
 
+type Given = Option<(Next, Option<u32>)>;
+
+// What was told with the notice that was given, if it is one.
+fn told_with(given: &Given) -> Option<u32> {
+    match given {
+        Some((Next::Message(_), told)) => *told,
+        _ => None,
+    }
+}
+
+// The id of the digest list that was given, if it is one.
+fn id_of(given: &Given) -> Option<u64> {
+    match given {
+        Some((Next::Message(StreamMessageResponse::Digest(list)), None)) => Some(list.list_id),
+        _ => None,
+    }
+}
+
+// What was told with the notice that the lane is given next, if it is given one.
+fn next_told(mail: &mut Mail<u32>, lane: u16) -> Option<u32>
+    requires { lane < 32 }
+{
+    let given = mail.next(lane, None, 0);
+    let told = told_with(&given);
+    drop(given);
+    told
+}
+
 // How many notices the lane is given in the order in which they were put, before something else.
 fn notices(mail: &mut Mail<u32>, lane: u16) -> u32
     requires { lane < 32 }
 {
     for number in 0..1_000u32 {
-        match mail.next(lane, None, 0) {
-            Some((Next::Message(_), Some(told))) if told == number => {}
-            _ => return number,
+        if next_told(mail, lane) != Some(number) {
+            return number;
         }
     }
     1_000
@@ -39,10 +66,30 @@ fn notices(mail: &mut Mail<u32>, lane: u16) -> u32
 fn list_id(mail: &mut Mail<u32>, lane: u16, now: u64) -> Option<u64>
     requires { lane < 32 }
 {
-    match mail.next(lane, Some(lane), now) {
-        Some((Next::Message(StreamMessageResponse::Digest(list)), None)) => Some(list.list_id),
-        _ => None,
-    }
+    let given = mail.next(lane, Some(lane), now);
+    let id = id_of(&given);
+    drop(given);
+    id
+}
+
+// Whether the lane is given an overflow next.
+fn is_overflow(mail: &mut Mail<u32>, lane: u16) -> bool
+    requires { lane < 32 }
+{
+    let given = mail.next(lane, None, 0);
+    let overflow = matches!(&given, Some((Next::Overflow, None)));
+    drop(given);
+    overflow
+}
+
+// Whether the lane is given nothing.
+fn is_empty(mail: &mut Mail<u32>, lane: u16, now: u64) -> bool
+    requires { lane < 32 }
+{
+    let given = mail.next(lane, None, now);
+    let empty = given.is_none();
+    drop(given);
+    empty
 }
 
 #[test]
@@ -53,13 +100,21 @@ fn an_overflow_is_said_once(rt: HostRuntime) -> Result<(), Fail> {
     notify(rt.alloc(), &mut mail, 31, 1);
     notify(rt.alloc(), &mut mail, 31, 1);
     assert!(rt; notices(&mut mail, 31) == 255);
-    assert!(rt; matches!(mail.next(31, None, 0), Some((Next::Overflow, None))));
-    assert!(rt; mail.next(31, None, 0).is_none());
+    assert!(rt; is_overflow(&mut mail, 31));
+    assert!(rt; is_empty(&mut mail, 31, 0));
     notify(rt.alloc(), &mut mail, 31, 300);
     notify(rt.alloc(), &mut mail, 0, 2);
     mail.clear(31);
-    assert!(rt; mail.next(31, None, 0).is_none() && notices(&mut mail, 0) == 2);
+    assert!(rt; is_empty(&mut mail, 31, 0) && notices(&mut mail, 0) == 2);
     Ok(())
+}
+
+// Gives three samples of digest 7 to a primary at lane 4.
+fn deliver_samples(alloc: Global, mail: &mut Mail<u32>) {
+    for now in [10, 20, 30] {
+        let sample = P4Data::Bitstring(ByteList::new(alloc));
+        mail.deliver_sample(7, sample, Some(4), now);
+    }
 }
 
 #[test]
@@ -71,12 +126,9 @@ fn the_primary_gets_digest_lists(rt: HostRuntime) -> Result<(), Fail> {
         ack_timeout_ns: 0,
     };
     mail.set_digest(7, Some(&config));
-    for now in [10, 20, 30] {
-        let sample = P4Data::Bitstring(ByteList::new(rt.alloc()));
-        mail.deliver_sample(7, sample, Some(4), now);
-    }
+    deliver_samples(rt.alloc(), &mut mail);
     mail.deliver_packet(Some(3), packet(rt.alloc()), &[4]);
-    assert!(rt; mail.next(3, None, 100).is_none() && mail.unstored() == 0);
+    assert!(rt; is_empty(&mut mail, 3, 100) && mail.unstored() == 0);
     assert!(rt; list_id(&mut mail, 4, 129) == Some(1) && list_id(&mut mail, 4, 129).is_none());
     assert!(rt; list_id(&mut mail, 4, 130) == Some(2) && list_id(&mut mail, 4, 500).is_none());
     Ok(())

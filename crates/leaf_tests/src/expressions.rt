@@ -32,19 +32,45 @@ fn fields_of_a_store(rt: HostRuntime) -> Result<(), Fail> {
     Ok(())
 }
 
-// `1 - 2 & 15` is settled, `1 - 2` is not; their comparison with 3 is refused.
+// `1 - 2`.
+fn difference(alloc: Global) -> Result<Number, NoMemory> {
+    let one = literal(alloc, 1)?;
+    Ok(Number::new(NumberNode::Subtract(one, literal(alloc, 2)?)))
+}
+
+// `1 - 2 & 15`.
+fn cut(alloc: Global) -> Result<Number, NoMemory> {
+    let difference = Box::new(alloc, difference(alloc)?)?;
+    Ok(Number::new(NumberNode::BitAnd(difference, literal(alloc, 15)?)))
+}
+
+// `1 + 2`.
+fn sum(alloc: Global) -> Result<Number, NoMemory> {
+    let one = literal(alloc, 1)?;
+    Ok(Number::new(NumberNode::Add(one, literal(alloc, 2)?)))
+}
+
+// Whether the comparison of a number with 3 is settled.
+fn is_compared(alloc: Global, number: Number) -> Result<bool, NoMemory> {
+    let number = Box::new(alloc, number)?;
+    let less = Truth::new(TruthNode::Less(number, literal(alloc, 3)?));
+    let is_compared = settled_truth(&less);
+    drop(less);
+    Ok(is_compared)
+}
+
+// `1 - 2 & 15` is settled, `1 - 2` is not; a comparison of `1 + 2` with 3 is refused, one of the settled number is not.
 #[test]
 fn settled_expressions(rt: HostRuntime) -> Result<(), Fail> {
     let alloc = rt.alloc();
-    let difference = Number::new(NumberNode::Subtract(literal(alloc, 1)?, literal(alloc, 2)?));
+    let difference = difference(alloc)?;
     assert!(rt; settled(&difference) && !is_settled(&difference));
-    let cut = Number::new(NumberNode::BitAnd(Box::new(alloc, difference)?, literal(alloc, 15)?));
+    drop(difference);
+    let cut = cut(alloc)?;
     assert!(rt; settled(&cut) && is_settled(&cut));
-    let good = Truth::new(TruthNode::Less(Box::new(alloc, cut)?, literal(alloc, 3)?));
-    assert!(rt; settled_truth(&good));
-    let sum = Number::new(NumberNode::Add(literal(alloc, 1)?, literal(alloc, 2)?));
-    let bad = Truth::new(TruthNode::Less(Box::new(alloc, sum)?, literal(alloc, 3)?));
-    assert!(rt; !settled_truth(&bad));
+    assert!(rt; is_compared(alloc, cut)?);
+    let sum = sum(alloc)?;
+    assert!(rt; !is_compared(alloc, sum)?);
     Ok(())
 }
 

@@ -74,12 +74,23 @@ impl Hold {
 }
 
 /// A gate that holds two turns, each until another was asked. After 10,000,000 looks it lets them go.
-#[derive(Drop)]
 pub(crate) struct Holding<'a, R: Clock> {
     rt: &'a R,
     first: Hold,
     second: Hold,
     let_go: AtomicBool,
+}
+
+// Written out, so that those who let one go need not look into it.
+impl<'a, R: Clock> Drop for Holding<'a, R> {
+    fn drop(self) {
+        let Self {
+            rt: _,
+            first: _first,
+            second: _second,
+            let_go: _let_go,
+        } = self;
+    }
 }
 
 impl<'a, R: Clock> Holding<'a, R> {

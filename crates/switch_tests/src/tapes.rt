@@ -54,6 +54,36 @@ pub(crate) fn meet(tape: &mut Vec<u8>, worker: u8, lane: u8, call: u8) -> Result
     tape.extend_from_slice(&[5, 0, worker, 0, 0, 0, 6, 0, lane, 0, 0, 0, call])
 }
 
+/// The beginning of a tape on which each of the first lanes asks so often.
+pub(crate) fn tape_of_calls(alloc: Global, lanes: u8, each: u64) -> Result<Vec<u8>, AllocError> {
+    let mut tape = beginning(alloc)?;
+    for _ in 0..each {
+        for lane in 0..lanes {
+            ask(&mut tape, lane)?;
+        }
+    }
+    Ok(tape)
+}
+
+// Reads a tape whose end is still to be added.
+fn read(alloc: Global, tape: Vec<u8>) -> Result<Tape, Fail> {
+    let mut bytes = tape;
+    bytes.extend_from_slice(&[0; 7])?;
+    let mut source = MemorySource::in_pieces(bytes, 65_536, Vec::new(alloc));
+    let tape = tape_from(alloc, &mut source);
+    drop(source);
+    match tape {
+        Some(tape) => Ok(tape),
+        None => Err("not a tape".into()),
+    }
+}
+
+// It promises nothing, so that the tests do not carry what `read` does.
+#[tactic(none)]
+fn tape_from(alloc: Global, source: &mut MemorySource) -> Option<Tape> {
+    Tape::read(alloc, source).ok()
+}
+
 /// Runs a tape whose end is still to be added, on a switch with the bridge.
 pub(crate) fn run<T: Threads + Wait + Sync, G: Gate + Sync>(
     rt: &T,
@@ -61,11 +91,6 @@ pub(crate) fn run<T: Threads + Wait + Sync, G: Gate + Sync>(
     gate: &G,
     tape: Vec<u8>,
 ) -> Result<Report, Fail> {
-    let mut bytes = tape;
-    bytes.extend_from_slice(&[0; 7])?;
-    let mut source = MemorySource::in_pieces(bytes, 65_536, Vec::new(alloc));
-    let Ok(tape) = Tape::read(alloc, &mut source) else {
-        return Err("not a tape".into());
-    };
-    Ok(replay_free(rt, alloc, gate, BRIDGE, tape.into_records(alloc)?)?)
+    let records = read(alloc, tape)?.into_records(alloc)?;
+    Ok(replay_free(rt, alloc, gate, BRIDGE, records)?)
 }

@@ -29,15 +29,91 @@ const REFUSED: &str =
 /// More links than a switch has lanes.
 const MANY: usize = 40;
 
-// The status of a program that serves links which follow these scripts, beside so many packets. It promises nothing, so that the tests do
-// not carry what `run` does.
-fn status_of<T: Threads + Wait + Sync>(
+// What a client sends, and what a switch sends it.
+struct Exchange {
+    client: Vec<u8>,
+    server: Vec<u8>,
+}
+
+impl Exchange {
+    fn decode(alloc: Global, client: &str, server: &str) -> Result<Exchange, Fail> {
+        let client = hex::decode(alloc, client)?;
+        let server = hex::decode(alloc, server)?;
+        Ok(Exchange { client, server })
+    }
+}
+
+// Written out, as that of the streams is, so that the tests need not look into it.
+impl Drop for Exchange {
+    fn drop(self) {
+        let Self {
+            client: _client,
+            server: _server,
+        } = self;
+    }
+}
+
+// What a program that serves could read and write.
+struct Streams {
+    source: MemorySource,
+    out: MemorySink,
+    err: MemorySink,
+}
+
+impl Streams {
+    fn open(alloc: Global) -> Result<Streams, Fail> {
+        let out = MemorySink::new(alloc, 16, Vec::new(alloc))?;
+        let err = MemorySink::new(alloc, 64, Vec::new(alloc))?;
+        let source = MemorySource::in_pieces(Vec::new(alloc), 1, Vec::new(alloc));
+        Ok(Streams { source, out, err })
+    }
+}
+
+impl Drop for Streams {
+    fn drop(self) {
+        let Self {
+            source: _source,
+            out: _out,
+            err: _err,
+        } = self;
+    }
+}
+
+// The status of a program with these words, by a net whose links follow these scripts. It promises nothing, so that the tests do not carry
+// what `run` does.
+#[tactic(none)]
+fn status_by<T: Threads + Wait + Sync>(
     rt: &T,
     alloc: Global,
+    words: &[&str],
+    streams: &mut Streams,
     stage: &Stage,
     scripts: &[Script<'_>],
     packets: u64,
-) -> Result<u8, Fail> {
+) -> u8 {
+    let mut net = ScriptNet::new(rt, stage, scripts, packets);
+    let mut clock = ListClock::new(Vec::new(alloc));
+    p4switch_run::run(
+        rt,
+        alloc,
+        words,
+        &mut streams.source,
+        &mut streams.out,
+        &mut streams.err,
+        &mut net,
+        &mut clock,
+    )
+}
+
+// The status of a program that serves links which follow these scripts, beside so many packets.
+fn status_of<T: Threads + Wait + Sync>(
+    rt: &T,
+    alloc: Global,
+    streams: &mut Streams,
+    stage: &Stage,
+    scripts: &[Script<'_>],
+    packets: u64,
+) -> u8 {
     let words = [
         "serve",
         "--workers",
@@ -47,21 +123,7 @@ fn status_of<T: Threads + Wait + Sync>(
         "--port",
         "9559",
     ];
-    let mut source = MemorySource::in_pieces(Vec::new(alloc), 1, Vec::new(alloc));
-    let mut out = MemorySink::new(alloc, 16, Vec::new(alloc))?;
-    let mut err = MemorySink::new(alloc, 64, Vec::new(alloc))?;
-    let mut net = ScriptNet::new(rt, stage, scripts, packets);
-    let mut clock = ListClock::new(Vec::new(alloc));
-    Ok(p4switch_run::run(
-        rt,
-        alloc,
-        &words,
-        &mut source,
-        &mut out,
-        &mut err,
-        &mut net,
-        &mut clock,
-    ))
+    status_by(rt, alloc, &words, streams, stage, scripts, packets)
 }
 
 #[test]
@@ -69,21 +131,20 @@ fn links_are_served_beside_one_another_and_packets_beside_them(
     rt: HostRuntime,
 ) -> Result<(), Fail> {
     let alloc = rt.alloc();
-    let client = hex::decode(alloc, CLIENT)?;
-    let server = hex::decode(alloc, SERVER)?;
+    let exchange = Exchange::decode(alloc, CLIENT, SERVER)?;
+    let mut streams = Streams::open(alloc)?;
     let stage = Stage::new(alloc);
     let script = Script {
-        bytes: client.as_slice(),
+        bytes: exchange.client.as_slice(),
         before: 1,
         until: 0,
     };
-    let status = status_of(&rt, alloc, &stage, &[script, script], 3)?;
+    let status = status_of(&rt, alloc, &mut streams, &stage, &[script, script], 3);
+    drop(streams);
     assert!(rt; status == 0);
-    assert!(rt;
-        stage.first.was_sent(&rt, server.as_slice()),
-        "the first link"
-    );
-    assert!(rt; stage.second.was_sent(&rt, server.as_slice()), "the second");
+    let server = exchange.server.as_slice();
+    assert!(rt; stage.first.was_sent(&rt, server), "the first link");
+    assert!(rt; stage.second.was_sent(&rt, server), "the second");
     assert!(rt; stage.packets() == 3, "packets");
     assert!(rt; !stage.gave_up(), "nobody waits in vain");
     Ok(())
@@ -92,23 +153,25 @@ fn links_are_served_beside_one_another_and_packets_beside_them(
 #[test]
 fn what_one_controller_took_another_cannot_take(rt: HostRuntime) -> Result<(), Fail> {
     let alloc = rt.alloc();
-    let client = hex::decode(alloc, CONTROLLER)?;
-    let primary = hex::decode(alloc, PRIMARY)?;
     let refused = hex::decode(alloc, REFUSED)?;
+    let exchange = Exchange::decode(alloc, CONTROLLER, PRIMARY)?;
+    let mut streams = Streams::open(alloc)?;
     let stage = Stage::new(alloc);
     let first = Script {
-        bytes: client.as_slice(),
+        bytes: exchange.client.as_slice(),
         before: 0,
         until: refused.len(),
     };
     let second = Script {
-        bytes: client.as_slice(),
-        before: primary.len(),
+        bytes: exchange.client.as_slice(),
+        before: exchange.server.len(),
         until: 0,
     };
-    let status = status_of(&rt, alloc, &stage, &[first, second], 0)?;
+    let status = status_of(&rt, alloc, &mut streams, &stage, &[first, second], 0);
+    drop(streams);
     assert!(rt; status == 0);
-    assert!(rt; stage.first.was_sent(&rt, primary.as_slice()), "the first");
+    let primary = exchange.server.as_slice();
+    assert!(rt; stage.first.was_sent(&rt, primary), "the first");
     assert!(rt;
         stage.second.was_sent(&rt, refused.as_slice()),
         "the second"
@@ -119,17 +182,18 @@ fn what_one_controller_took_another_cannot_take(rt: HostRuntime) -> Result<(), F
 #[test]
 fn more_links_are_served_than_there_are_lanes(rt: HostRuntime) -> Result<(), Fail> {
     let alloc = rt.alloc();
-    let client = hex::decode(alloc, CLIENT)?;
-    let server = hex::decode(alloc, SERVER)?;
+    let exchange = Exchange::decode(alloc, CLIENT, SERVER)?;
+    let mut streams = Streams::open(alloc)?;
     let stage = Stage::new(alloc);
     let script = Script {
-        bytes: client.as_slice(),
+        bytes: exchange.client.as_slice(),
         before: 0,
         until: 0,
     };
-    let status = status_of(&rt, alloc, &stage, &[script; MANY], 0)?;
+    let status = status_of(&rt, alloc, &mut streams, &stage, &[script; MANY], 0);
+    drop(streams);
     assert!(rt; status == 0);
-    let sent = server.len().saturating_mul(MANY / 2);
+    let sent = exchange.server.len().saturating_mul(MANY / 2);
     assert!(rt; stage.first.length() == sent && stage.second.length() == sent);
     Ok(())
 }
