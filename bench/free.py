@@ -3,7 +3,7 @@
 
 Times free runs of tapes with N records (default: 1,000,000, the most that a tape may have) of packets of 34 bytes through
 the router of examples/programs with four routes, on 1, 2 and 4 workers, each of which has a route of its own and meets its
-INSERT before its first packet. PROGRAM is crates/replay_speed (default: the built one), which measures inside of the process, and CONFIG
+INSERT before its first packet. PROGRAM is crates/speed (default: the built one), whose word `replay` measures inside of the process, and CONFIG
 the router's (default: as `bin/p4config` makes it): the packets a second
 are those of the run without the reading of the tape and without the report, and the report's share is of run and report
 together. Of three runs the one counts whose run is shortest. Times are of this machine; the ratios are what to quote, with
@@ -37,14 +37,14 @@ def least(program, data):
     """Packets of the report, and the microseconds of the reading, the run and the report, of the shortest run."""
     runs = []
     for _ in range(ROUNDS):
-        told = subprocess.run([program, "measure"], input=data, stdout=subprocess.PIPE, check=True).stdout.decode()
+        told = subprocess.run([program, "replay", "measure", "/dev/stdin"], input=data, stdout=subprocess.PIPE, check=True).stdout.decode()
         _, packets, _, read, run, report = map(int, TOLD.fullmatch(told).groups())
         runs.append((run, packets, read, report))
     return min(runs)
 
 
 def main():
-    program, words = program_given("replay_speed")
+    program, words = program_given("speed")
     config = open(words.pop(0), "rb").read() if words and not words[0].isdigit() else router()
     records = int(words[0]) if words else 1000000
     print("%d hardware threads" % os.cpu_count())

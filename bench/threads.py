@@ -5,7 +5,7 @@ Times the workers of a switch that serves, on the router of examples/programs wi
 packets of 34 bytes, each on a route of its own and all on one route, and then enter snapshots of the switch and leave
 them, beside no writer and beside one that replaces a route as fast as it can. Before that it lets three readers look at
 snapshots while a writer replaces two routes at once 100,000 times: none may be torn, and none older than the one before.
-PROGRAM is crates/desk_speed (default: the built one), which measures inside of the process, and CONFIG the router's
+PROGRAM is crates/speed (default: the built one), whose word `desk` measures inside of the process, and CONFIG the router's
 (default: as `bin/p4config` makes it). Each worker runs N packets (default: 1,000,000) that are all there from the beginning, up to
 32 on one snapshot, and enters 4 * N snapshots; of three runs the shortest counts. Workers are also told beside as many processes of one worker each, which share nothing but the
 machine, and an entry beside an uncontended addition to an atomic word in the same run. Times are of this machine; the
@@ -26,6 +26,7 @@ ROUNDS = 3
 ROUTES = 1000
 WORKERS = (1, 2, 4)
 TURNS = 50000
+TAPE = "/dev/stdin"
 LOOKED = "4 calls OK, %d of the writer\n3 readers: 0 snapshots torn, 0 older than the one before, %d of %d steps seen by each\n"
 TOLD = re.compile(r"(\d+) calls OK, (\d+) workers, (\d+) .*\n(\d+) us, (\d+) calls of the writer OK, (\d+) additions in (\d+) us\n")
 ATOMIC = number(5, 2)
@@ -59,7 +60,7 @@ def measuring(config, workers, shared, written):
 
 
 def run(program, words, data):
-    return subprocess.run([program, *words], input=data, stdout=subprocess.PIPE, check=True).stdout.decode()
+    return subprocess.run([program, "desk", *words, TAPE], input=data, stdout=subprocess.PIPE, check=True).stdout.decode()
 
 
 def told(text, workers, times):
@@ -77,7 +78,7 @@ def least(program, word, data, workers, times):
 
 def apart(program, data, count, times):
     """The packets a second of so many processes at once that have a worker each and share nothing."""
-    running = [subprocess.Popen([program, "packets", str(times)], stdin=subprocess.PIPE, stdout=subprocess.PIPE) for _ in range(count)]
+    running = [subprocess.Popen([program, "desk", "packets", str(times), TAPE], stdin=subprocess.PIPE, stdout=subprocess.PIPE) for _ in range(count)]
     for one in running:
         one.stdin.write(data)
         one.stdin.close()
@@ -115,7 +116,7 @@ def entries(program, config, times):
 
 
 def main():
-    program, words = program_given("desk_speed")
+    program, words = program_given("speed")
     config = open(words.pop(0), "rb").read() if words and not words[0].isdigit() else router()
     times = int(words[0]) if words else 1000000
     print("%d hardware threads, %d routes" % (os.cpu_count(), ROUTES))

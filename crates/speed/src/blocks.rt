@@ -1,4 +1,5 @@
 // Header blocks.
+use crate::moments::nanoseconds;
 use hpack_tables::Decoder;
 use std::io;
 use std::time::Clock;
@@ -26,7 +27,7 @@ pub struct Measured {
 }
 
 fn decode<R: Clock>(rt: &R, decoder: &mut Decoder, block: &[u8]) -> io::Result<Measured> {
-    let before = rt.monotonic()?.as_nanos();
+    let before = nanoseconds(rt);
     let mut headers = 0u64;
     for _ in 0..TIMES {
         let Ok(list) = decoder.block(block) else {
@@ -34,7 +35,7 @@ fn decode<R: Clock>(rt: &R, decoder: &mut Decoder, block: &[u8]) -> io::Result<M
         };
         headers = headers.wrapping_add(list.len() as u64);
     }
-    let after = rt.monotonic()?.as_nanos();
+    let after = nanoseconds(rt);
     Ok(Measured {
         nanoseconds: after.saturating_sub(before) / u128::from(TIMES),
         headers,

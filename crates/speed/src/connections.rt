@@ -1,6 +1,7 @@
 // Connections of HTTP/2 whose bytes come in pieces.
 ghost use Rattle.std.specs.Prelude.{◌<◌};
 
+use crate::moments::nanoseconds;
 use h2_conn::Conn;
 use std::io;
 use std::io::{Error, ErrorKind};
@@ -64,9 +65,9 @@ fn feed_all<R: Clock + AllocGlobal>(rt: &R, bytes: &[u8], size: usize) -> io::Re
 pub fn measure<R: Clock + AllocGlobal>(rt: &R, bytes: &[u8], size: usize) -> io::Result<Measured>
     requires { 0 < size }
 {
-    let before = rt.monotonic()?.as_nanos();
+    let before = nanoseconds(rt);
     let events = feed_all(rt, bytes, size)?;
-    let after = rt.monotonic()?.as_nanos();
+    let after = nanoseconds(rt);
     let each = (bytes.len() as u128).max(1);
     Ok(Measured {
         hundredths: after.saturating_sub(before).saturating_mul(100) / each,

@@ -1,6 +1,7 @@
 // Hits of one, two and four threads, on one slot and on slots far apart.
 ghost use Rattle.std.specs.Prelude.{◌≡◌, ◌+◌, ◌<◌, ◌≤◌};
 
+use crate::moments::nanoseconds;
 use counter_bank::{Bank, Seat, close_with, open};
 use p4_types::events::SLOT_LIMIT;
 use std::io::{self, Error, ErrorKind};
@@ -116,9 +117,9 @@ pub fn measure<R: Threads + Sync + Clock + AllocGlobal>(
     let Ok((bank, seat)) = open(rt.alloc(), SLOT_LIMIT) else {
         return Err(Error::from(ErrorKind::OutOfMemory));
     };
-    let before = rt.monotonic()?.as_nanos();
+    let before = nanoseconds(rt);
     let seat = count_by(rt, &bank, seat, threads, apart);
-    let nanos = rt.monotonic()?.as_nanos().saturating_sub(before);
+    let nanos = nanoseconds(rt).saturating_sub(before);
     let (packets, _) = close_with(bank, seat).get(0);
     Ok(Measured {
         hundredths: nanos.saturating_mul(100) / u128::from(HITS),

@@ -3,6 +3,7 @@ ghost use Rattle.std.specs.Prelude.{◌≡◌, ◌<◌, ◌≤◌, List, length,
 ghost use Rattle.bm_expr.specs.Meaning.{NumberInStore};
 ghost use Rattle.bm_expr.specs.Store.{Contents};
 
+use crate::moments::nanoseconds;
 use bm_expr::{Number, NumberNode, Store, value};
 use pkt_bits::take;
 use std::alloc::{AllocError, Global};
@@ -24,37 +25,45 @@ fn hundredths(before: u128, after: u128) -> u128 {
 }
 
 /// Reads a field of 48 bits, at one of eight offsets, again and again.
-pub fn fields<R: Clock>(rt: &R, packet: &[u8]) -> io::Result<Measured>
+pub fn fields<R: Clock>(rt: &R, packet: &[u8]) -> Measured
     requires packet { 16 ≤ length packet.now }
 {
-    let before = rt.monotonic()?.as_nanos();
+    let before = nanoseconds(rt);
     let mut sum = 0u128;
     for number in 0..TIMES {
         sum = sum.wrapping_add(take(packet, (number % 8) as usize, 48));
     }
-    let after = rt.monotonic()?.as_nanos();
-    Ok(Measured {
+    let after = nanoseconds(rt);
+    Measured {
         hundredths: hundredths(before, after),
         sum,
-    })
+    }
+}
+
+// The two that an operator takes.
+fn both(
+    alloc: Global,
+    left: Number,
+    right: Number,
+) -> Result<(Box<Number>, Box<Number>), AllocError>
+    ensures left { IfOk result (λ pair. pair.0.value ≡ left) }
+    ensures right { IfOk result (λ pair. pair.1.value ≡ right) }
+{
+    let left = Box::new(alloc, left)?;
+    Ok((left, Box::new(alloc, right)?))
 }
 
 // ((datum 0 + 3) * 5) ^ datum 0
 fn expression(alloc: Global) -> Result<Number, AllocError>
     ensures { (store : Contents) → (args : List ℕ) → 0 < length args → IfOk result (λ number. NumberInStore store args number) }
 {
-    let sum = Number::new(NumberNode::Add(
-        Box::new(alloc, Number::new(NumberNode::Datum(0)))?,
-        Box::new(alloc, Number::new(NumberNode::Literal(3)))?,
-    ));
-    let product = Number::new(NumberNode::Multiply(
-        Box::new(alloc, sum)?,
-        Box::new(alloc, Number::new(NumberNode::Literal(5)))?,
-    ));
-    Ok(Number::new(NumberNode::BitXor(
-        Box::new(alloc, product)?,
-        Box::new(alloc, Number::new(NumberNode::Datum(0)))?,
-    )))
+    let three = Number::new(NumberNode::Literal(3));
+    let (left, right) = both(alloc, Number::new(NumberNode::Datum(0)), three)?;
+    let sum = Number::new(NumberNode::Add(left, right));
+    let (left, right) = both(alloc, sum, Number::new(NumberNode::Literal(5)))?;
+    let product = Number::new(NumberNode::Multiply(left, right));
+    let (left, right) = both(alloc, product, Number::new(NumberNode::Datum(0)))?;
+    Ok(Number::new(NumberNode::BitXor(left, right)))
 }
 
 /// Computes an expression of three operators again and again.
@@ -63,12 +72,12 @@ pub fn expressions<R: Clock + AllocGlobal>(rt: &R) -> io::Result<Measured> {
     let (Ok(store), Ok(number)) = (Store::open(alloc, 0, 0), expression(alloc)) else {
         return Err(io::Error::from(io::ErrorKind::OutOfMemory));
     };
-    let before = rt.monotonic()?.as_nanos();
+    let before = nanoseconds(rt);
     let mut sum = 0u128;
     for datum in 0..TIMES {
         sum = sum.wrapping_add(value(&number, &store, &[u128::from(datum)]));
     }
-    let after = rt.monotonic()?.as_nanos();
+    let after = nanoseconds(rt);
     Ok(Measured {
         hundredths: hundredths(before, after),
         sum,

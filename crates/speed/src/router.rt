@@ -4,9 +4,11 @@ ghost use Rattle.act_exec.specs.Marks.{TakesData};
 ghost use Rattle.pkt_codec.specs.Room.{HasRoom};
 ghost use Rattle.pkt_worker.specs.Slots.{HasSlots};
 
+use crate::moments::nanoseconds;
 use act_exec::{Marks, run_action};
 use bm_expr::Store;
 use bm_pipeline::Pipeline;
+use list_types::NoMemory;
 use pkt_codec::{PacketBuf, deparse, enter, parse, update_sums};
 use pkt_worker::{Scratch, Verdict, run};
 use plane_state::Plane;
@@ -56,14 +58,10 @@ pub struct Room {
 }
 
 /// Takes the memory of the stages.
-pub fn open(alloc: Global) -> io::Result<Room> {
-    let (Ok(store), Ok(marks), Ok(out)) = (
-        Store::open(alloc, 0, 0),
-        Marks::open(alloc),
-        PacketBuf::open(alloc),
-    ) else {
-        return Err(Error::from(ErrorKind::OutOfMemory));
-    };
+pub fn open(alloc: Global) -> Result<Room, NoMemory> {
+    let store = Store::open(alloc, 0, 0)?;
+    let marks = Marks::open(alloc)?;
+    let out = PacketBuf::open(alloc)?;
     Ok(Room { store, marks, out })
 }
 
@@ -189,19 +187,19 @@ pub fn measure<R: Clock>(
     args: &[u128],
     room: &mut Room,
     times: u32,
-) -> io::Result<Measured> {
+) -> Measured {
     let mut best = u128::MAX;
     let mut sum = 0u64;
     for _ in 0..BATCHES {
-        let before = rt.monotonic()?.as_nanos();
+        let before = nanoseconds(rt);
         sum = sum.wrapping_add(batch(pipeline, part, args, room, times));
-        let after = rt.monotonic()?.as_nanos();
+        let after = nanoseconds(rt);
         best = best.min(hundredths(before, after, times));
     }
-    Ok(Measured {
+    Measured {
         hundredths: best,
         sum,
-    })
+    }
 }
 
 // Whether a plane has no cells, so that their slots are within the limit.
@@ -228,27 +226,34 @@ fn runs(plane: &Plane, scratch: &mut Scratch, verdict: &mut Verdict, times: u32)
     sum
 }
 
+/// Takes the memory that packets need while they run.
+pub fn memory_of_run(alloc: Global) -> Result<(Scratch, Verdict), NoMemory> {
+    let scratch = Scratch::open(alloc)?;
+    Ok((scratch, Verdict::open(alloc)?))
+}
+
 /// Measures the whole run of the packet through a plane without cells.
 pub fn measure_run<R: Clock + AllocGlobal>(
     rt: &R,
     plane: &Plane,
     times: u32,
 ) -> io::Result<Measured> {
-    let (Ok(mut scratch), Ok(mut verdict)) = (Scratch::open(rt.alloc()), Verdict::open(rt.alloc()))
-    else {
-        return Err(Error::from(ErrorKind::OutOfMemory));
-    };
     if !has_no_cells(plane) {
         return Err(Error::from(ErrorKind::InvalidData));
     }
+    let Ok((mut scratch, mut verdict)) = memory_of_run(rt.alloc()) else {
+        return Err(Error::from(ErrorKind::OutOfMemory));
+    };
     let mut best = u128::MAX;
     let mut sum = 0u64;
     for _ in 0..BATCHES {
-        let before = rt.monotonic()?.as_nanos();
+        let before = nanoseconds(rt);
         sum = sum.wrapping_add(runs(plane, &mut scratch, &mut verdict, times));
-        let after = rt.monotonic()?.as_nanos();
+        let after = nanoseconds(rt);
         best = best.min(hundredths(before, after, times));
     }
+    drop(scratch);
+    drop(verdict);
     Ok(Measured {
         hundredths: best,
         sum,

@@ -20,7 +20,9 @@ pub fn config_of(alloc: Global, bytes: &[u8]) -> io::Result<Config> {
     let Ok(Some(config)) = read_config(alloc, bytes) else {
         return Err(Error::from(ErrorKind::InvalidData));
     };
-    match configuration(alloc, &config) {
+    let made = configuration(alloc, &config);
+    drop(config);
+    match made {
         Ok(config) => Ok(config),
         Err(_) => Err(Error::from(ErrorKind::InvalidData)),
     }
@@ -96,10 +98,12 @@ fn fill(alloc: Global, plane: &mut Plane, table: u32, action: u32, routes: u32) 
 pub fn plane_of(alloc: Global, bytes: &[u8], routes: u32) -> io::Result<Plane> {
     let config = Shared::new(alloc, config_of(alloc, bytes)?).map_err(out_of_memory)?;
     let mut plane = Plane::open(alloc, config, 0);
-    let Some((table, action)) = first_ids(&plane) else {
-        return Err(Error::from(ErrorKind::InvalidData));
+    let put_in = match first_ids(&plane) {
+        Some((table, action)) => Some(fill(alloc, &mut plane, table, action, routes)),
+        None => None,
     };
-    if fill(alloc, &mut plane, table, action, routes) != routes {
+    if put_in != Some(routes) {
+        drop(plane);
         return Err(Error::from(ErrorKind::InvalidData));
     }
     plane.keep();

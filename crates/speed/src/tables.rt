@@ -1,6 +1,7 @@
 // Look-ups in a table of routes, and changes of another table beside it.
 ghost use Rattle.std.specs.Prelude.{◌≡◌, ◌<◌, ◌+◌, ◌-◌, ◌^◌, All, IfOk};
 
+use crate::moments::nanoseconds;
 use list_types::{List, NoMemory, Text};
 use p4_types::info::Table;
 use p4_types::keys::{Arguments, FieldTest, Tests};
@@ -60,7 +61,7 @@ fn table(alloc: Global, id: u32) -> Table
 
 // The network of this number: 24 bits of an address.
 fn network(number: u32) -> u128 {
-    u128::from(number) * 256 % 0x1_0000_0000
+    u128::from(number % 0x100_0000) * 256
 }
 
 fn name(table: u32, number: u32) -> EntryName
@@ -122,10 +123,13 @@ fn filled(alloc: Global, routes: u32) -> Result<TableStore, NoMemory>
     for number in 0..routes {
         let change = route(ROUTES, number);
         if !put(alloc, &mut store, &table, &change, number) {
+            drop(store);
+            drop(table);
             return Err(NoMemory);
         }
         store.keep();
     }
+    drop(table);
     Ok(store)
 }
 
@@ -136,7 +140,7 @@ struct LookUp {
     key: [u128; 1],
 }
 
-fn asked(alloc: Global, routes: u32) -> Result<Vec<LookUp>, NoMemory> {
+fn asked(alloc: Global, routes: u32) -> io::Result<Vec<LookUp>> {
     let mut list = Vec::new(alloc);
     for number in 0..LOOK_UPS {
         let route = (number * 7919).checked_rem(routes).unwrap_or(0);
@@ -220,18 +224,23 @@ fn hundredths(before: u128, after: u128) -> u128 {
 /// Looks up in a table of so many routes, and changes another table beside it.
 pub fn look_ups<R: Clock + AllocGlobal>(rt: &R, routes: u32) -> io::Result<Measured> {
     let alloc = rt.alloc();
-    let (Ok(mut store), Ok(asked)) = (filled(alloc, routes), asked(alloc, routes)) else {
+    let asked = asked(alloc, routes)?;
+    let Ok(mut store) = filled(alloc, routes) else {
+        drop(asked);
         return Err(Error::from(ErrorKind::OutOfMemory));
     };
     let other = table(alloc, OTHER);
     let change = route(OTHER, 0);
-    let start = rt.monotonic()?.as_nanos();
+    let start = nanoseconds(rt);
     let found = found_by_name(&store, &asked);
-    let middle = rt.monotonic()?.as_nanos();
+    let middle = nanoseconds(rt);
     let best = found_by_key(&store, &asked);
-    let found_both = rt.monotonic()?.as_nanos();
+    let found_both = nanoseconds(rt);
     let made = changed(alloc, &mut store, &other, &change, routes);
-    let end = rt.monotonic()?.as_nanos();
+    let end = nanoseconds(rt);
+    drop(store);
+    drop(asked);
+    drop(other);
     Ok(Measured {
         find: hundredths(start, middle),
         best: hundredths(middle, found_both),

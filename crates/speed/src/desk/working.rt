@@ -1,7 +1,7 @@
 // What each thread does.
-use crate::asking::{Done, Made, Task, Work};
-use crate::dealing::Load;
-use crate::looking::{Sight, enter_often, look};
+use crate::desk::asking::{Done, Made, Task, Work};
+use crate::desk::dealing::Load;
+use crate::desk::looking::{Sight, enter_often, look};
 use list_types::NoMemory;
 use live_desk::{DeskWorker, LiveDesk, Naming, Pass};
 use p4_types::calls::Call;
@@ -63,6 +63,8 @@ fn carry<J: Naming, R: Wait + Drop>(
         carry_once(&shared.desk, &mut worker, &mut sight, &mut done);
     }
     worker.rest();
+    drop(worker);
+    drop(sight);
     done
 }
 
@@ -85,6 +87,8 @@ fn look_on<J: Naming, R: Wait + Drop>(
         let (left, is_entered) = look(viewer, &mut sight, &mut done);
         viewer = left;
         if is_last && is_entered {
+            drop(viewer);
+            drop(sight);
             return done;
         }
         yield_now();
@@ -95,11 +99,17 @@ fn look_on<J: Naming, R: Wait + Drop>(
 // A worker's work, with memory of its own.
 fn work<J: Naming, R: Wait + Drop>(shared: &Shared<J, R>, job: Job<J>) -> Result<Done, NoMemory> {
     let Job { worker, loads } = job;
-    let sight = Sight::open(shared.alloc, loads)?;
+    let Ok(sight) = Sight::open(shared.alloc, loads) else {
+        drop(worker);
+        return Err(NoMemory);
+    };
     Ok(match shared.task.work {
         Work::Carry => carry(shared, worker, sight),
         Work::Look => look_on(shared, viewer_of(worker), sight),
-        Work::Enter => enter_often(viewer_of(worker), shared.task.times),
+        Work::Enter => {
+            drop(sight);
+            enter_often(viewer_of(worker), shared.task.times)
+        }
     })
 }
 

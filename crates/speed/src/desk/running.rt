@@ -2,13 +2,13 @@
 ghost use Rattle.std.specs.Prelude.{◌≡◌};
 ghost use Rattle.live_desk.specs.Opening.{AreParts};
 
-use crate::asking::{Ran, Task};
-use crate::dealing::{Load, Plan};
-use crate::working::{Job, Shared, make_calls, work_beside};
+use crate::desk::asking::{Ran, Task};
+use crate::desk::dealing::{Calls, Load};
+use crate::desk::working::{Job, Shared, make_calls, work_beside};
+use crate::moments::nanoseconds;
+use crate::tapes::START;
 use list_types::NoMemory;
 use live_desk::{DeskWorker, Naming, Parts, Pass, open_desk, open_parts};
-use p4_types::calls::Call;
-use p4_types::events::Start;
 use pub_snap::Publisher;
 use std::alloc::Global;
 use std::marker::Brand;
@@ -16,14 +16,6 @@ use std::sync::Wait;
 use std::sync::atomic::AtomicBool;
 use std::thread::Threads;
 use std::time::Clock;
-
-/// A switch that starts without a program.
-const START: Start = Start {
-    device: 1,
-    cpu: 255,
-    rows: 16_384,
-    bridge: false,
-};
 
 /// How many workers run at once at most.
 const MOST_WORKERS: usize = 16;
@@ -43,27 +35,18 @@ fn jobs_of<J: Naming>(
     Ok(jobs)
 }
 
-/// The moment of the clock in nanoseconds, or 0 where it tells none.
-pub fn nanoseconds<T: Clock>(rt: &T) -> u128 {
-    match rt.monotonic() {
-        Ok(moment) => moment.as_nanos(),
-        Err(_) => 0,
-    }
-}
-
 // The first calls are made, and then the workers work beside the writer.
-fn run_jobs<J: Naming + Send + Sync, T: Threads + Wait + Clock + Sync>(
+fn run_calls<J: Naming + Send + Sync, T: Threads + Wait + Clock + Sync>(
     rt: &T,
     shared: &Shared<J, &T>,
     pass: &mut Pass<J>,
     jobs: Vec<Job<J>>,
-    first: &[Call],
-    written: &[Call],
+    calls: &Calls,
 ) -> Result<Ran, NoMemory> {
-    let first = make_calls(shared, pass, first, 1);
+    let first = make_calls(shared, pass, calls.first.as_slice(), 1);
     let workers = jobs.len();
     let before = nanoseconds(rt);
-    let (done, written) = work_beside(shared, pass, jobs, written)?;
+    let (done, written) = work_beside(shared, pass, jobs, calls.written.as_slice())?;
     Ok(Ran {
         first,
         workers,
@@ -73,13 +56,37 @@ fn run_jobs<J: Naming + Send + Sync, T: Threads + Wait + Clock + Sync>(
     })
 }
 
+// The calls and the work of these workers, with one pass of those of the desk.
+fn run_workers<J: Naming + Send + Sync, T: Threads + Wait + Clock + Sync>(
+    rt: &T,
+    shared: &Shared<J, &T>,
+    mut passes: Vec<Pass<J>>,
+    jobs: Vec<Job<J>>,
+    calls: &Calls,
+) -> Result<Ran, NoMemory> {
+    let pass = passes.pop();
+    drop(passes);
+    match pass {
+        Some(mut pass) => {
+            let ran = run_calls(rt, shared, &mut pass, jobs, calls);
+            drop(pass);
+            ran
+        }
+        None => {
+            drop(jobs);
+            Err(NoMemory)
+        }
+    }
+}
+
 // The plan at a desk with these names.
 fn run<J: Naming + Send + Sync, T: Threads + Wait + Clock + Sync>(
     rt: &T,
     alloc: Global,
     publisher: Publisher<&T>,
     parts: Parts,
-    plan: Plan,
+    calls: &Calls,
+    loads: Vec<Vec<Load>>,
     task: Task,
 ) -> Result<Ran, NoMemory>
     requires start { START ≡ J.start }
@@ -88,14 +95,11 @@ fn run<J: Naming + Send + Sync, T: Threads + Wait + Clock + Sync>(
     requires bank { parts.bank.id ≡ J.bank }
     requires table { parts.table ≡ J.table }
 {
-    let Plan {
-        first,
-        written,
-        loads,
-    } = plan;
-    let (desk, (mut passes, workers)) = open_desk::<J, &T>(rt, alloc, START, publisher, parts)?;
-    let pass = passes.pop();
-    drop(passes);
+    let Ok((desk, (passes, workers))) = open_desk::<J, &T>(rt, alloc, START, publisher, parts)
+    else {
+        drop(loads);
+        return Err(NoMemory);
+    };
     let shared = Shared {
         rt,
         alloc,
@@ -104,34 +108,29 @@ fn run<J: Naming + Send + Sync, T: Threads + Wait + Clock + Sync>(
         is_written: AtomicBool::new(false),
         is_done: AtomicBool::new(false),
     };
-    let jobs = jobs_of(alloc, workers, loads);
-    let ran = match (pass, jobs) {
-        (Some(mut pass), Ok(jobs)) => {
-            let ran = run_jobs(
-                rt,
-                &shared,
-                &mut pass,
-                jobs,
-                first.as_slice(),
-                written.as_slice(),
-            );
-            drop(pass);
-            ran
+    let ran = match jobs_of(alloc, workers, loads) {
+        Ok(jobs) => run_workers(rt, &shared, passes, jobs, calls),
+        Err(NoMemory) => {
+            drop(passes);
+            Err(NoMemory)
         }
-        _ => Err(NoMemory),
     };
     drop(shared);
     ran
 }
 
-/// Opens a desk with a worker for each list of packets, at most 16, and runs the plan there.
+/// Opens a desk with a worker for each list of packets, at most 16, and runs the calls and the packets there.
 pub fn open_and_run<T: Threads + Wait + Clock + Sync>(
     rt: &T,
     alloc: Global,
-    plan: Plan,
+    calls: &Calls,
+    loads: Vec<Vec<Load>>,
     task: Task,
 ) -> Result<Ran, NoMemory> {
-    let workers = plan.loads.len().min(MOST_WORKERS);
-    let (publisher, parts) = open_parts(rt, alloc, &START, workers)?;
-    run::<Brand, T>(rt, alloc, publisher, parts, plan, task)
+    let workers = loads.len().min(MOST_WORKERS);
+    let Ok((publisher, parts)) = open_parts(rt, alloc, &START, workers) else {
+        drop(loads);
+        return Err(NoMemory);
+    };
+    run::<Brand, T>(rt, alloc, publisher, parts, calls, loads, task)
 }

@@ -1,6 +1,6 @@
 use denote.Param.Send.{sendable}
-use Rattle.desk_speed.proofs.Crossing.{done_send, job_send, shared_sync, task_sync}
-use Rattle.desk_speed.proofs.working.work_each.Goals as goal
+use Rattle.speed.proofs.Crossing.{done_send, job_send, shared_sync, task_sync}
+use Rattle.speed.proofs.desk.working.work_each.Goals as goal
 
 pub map_vec-each-requires-send-J : goal.map_vec-each-requires-send-J
 map_vec-each-requires-send-J g c κs within = search (job_send, sendable) depth 20

@@ -5,10 +5,10 @@ use Rattle.std.proofs.Crossing.{Vec-send}
 use Rattle.std.specs.contracts.alloc.Global as Heap
 use Rattle.std.specs.contracts.impls.GlobalAllocator.TheImpl.{ghosts}
 use Rattle.std.specs.contracts.vec.Vec as Vec
-use Rattle.desk_speed.proofs.Crossing.{done_send, job_send, shared_sync, task_send}
-use Rattle.desk_speed.proofs.working.work_beside.Goals as goal
-use Rattle.desk_speed.specs.contracts.working.Job as Job
-use Rattle.desk_speed.specs.contracts.working.Shared as Shared
+use Rattle.speed.proofs.Crossing.{done_send, job_send, shared_sync, task_send}
+use Rattle.speed.proofs.desk.working.work_beside.Goals as goal
+use Rattle.speed.specs.contracts.desk.working.Job as Job
+use Rattle.speed.specs.contracts.desk.working.Shared as Shared
 
 pub join-done-requires-send-F : goal.join-done-requires-send-F
 join-done-requires-send-F g c κs within =

@@ -9,10 +9,10 @@ use mir.Syntax.{Sym}
 use Rattle.std.proofs.Common.{[], ◌∷◌}
 use Rattle.std.proofs.Crossing.{crosses}
 use Rattle.desk_crossings.proofs.Desks.{desk_sync, desk_worker_send}
-use Rattle.desk_speed.specs.contracts.asking.Done as Done
-use Rattle.desk_speed.specs.contracts.dealing.Load as Load
-use Rattle.desk_speed.specs.contracts.working.Job as Job
-use Rattle.desk_speed.specs.contracts.working.Shared as Shared
+use Rattle.speed.specs.contracts.desk.asking.Done as Done
+use Rattle.speed.specs.contracts.desk.dealing.Load as Load
+use Rattle.speed.specs.contracts.desk.working.Job as Job
+use Rattle.speed.specs.contracts.desk.working.Shared as Shared
 use Rattle.list_types.specs.contracts.memory.NoMemory as NoMemory
 use Rattle.live_desk.specs.declared.naming.Naming as naming
 use Rattle.std.specs.contracts.result.Result as Result

@@ -1,6 +1,7 @@
 // Snapshots, entered and left.
-use crate::asking::Done;
-use crate::dealing::Load;
+use crate::desk::asking::Done;
+use crate::desk::dealing::Load;
+use crate::router::memory_of_run;
 use list_types::NoMemory;
 use pkt_worker::{Scratch, Verdict, run};
 use pub_snap::{View, Viewer};
@@ -16,11 +17,17 @@ pub struct Sight {
 
 impl Sight {
     pub fn open(alloc: Global, loads: Vec<Load>) -> Result<Sight, NoMemory> {
-        Ok(Sight {
-            loads,
-            verdict: Verdict::open(alloc)?,
-            scratch: Scratch::open(alloc)?,
-        })
+        match memory_of_run(alloc) {
+            Ok((scratch, verdict)) => Ok(Sight {
+                loads,
+                verdict,
+                scratch,
+            }),
+            Err(NoMemory) => {
+                drop(loads);
+                Err(NoMemory)
+            }
+        }
     }
 }
 

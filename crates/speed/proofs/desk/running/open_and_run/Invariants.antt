@@ -1,5 +1,5 @@
 use Rattle.std.proofs.Common.{false}
-use Rattle.desk_speed.proofs.running.open_and_run.Given as goal
+use Rattle.speed.proofs.desk.running.open_and_run.Given as goal
 
 abbrev pub ghosts-run : goal.ghosts-run
 ghosts-run g a = record { table = a.parts.table; list = a.publisher.told.list; bank = a.parts.bank.id; start = record { device = 1; cpu = 255; rows = 16384; bridge = false } }
