@@ -1,22 +1,8 @@
--- An answer before its events are handed on.
+-- What the events of an answer change in the image.
 use Rattle.std.specs.Prelude.{◌≡◌, List, [], ◌∷◌, Result, Ok, Err}
 use Rattle.plane_image.specs.Image.{ImageVersions}
 use Rattle.plane_spec.specs.Config.{Event}
 use Rattle.plane_spec.specs.Planes.{ControlState, applied}
-use Rattle.switch_spec.specs.Answer.{Answer}
-use Rattle.ctl_core.specs.declared.prepared.Prepared.{Prepared}
-
--- it is this answer
-pub record IsPrepared (a : Answer) (p : Prepared) : Type 0 where
-  pub code : p.code ≡ a.code
-  pub messages : p.messages ≡ a.messages
-  pub notices : p.notices ≡ a.notices
-  pub events : p.events ≡ a.events
-  pub packet : p.packet ≡ a.packet
-
--- the answer that it is
-abbrev pub answer_of : Prepared → Answer
-answer_of p = record { code = p.code; messages = p.messages; notices = p.notices; events = p.events; packet = p.packet }
 
 -- what is changed in the image are these events, which can be undone
 pub record Leads (old new : ImageVersions) (list : List Event) : Type 0 where

@@ -1,41 +1,32 @@
 //! The answers to calls, before their events are handed on.
-ghost use Rattle.std.specs.Prelude.{◌≡◌, ◌∷◌, [], false, IfOk};
+ghost use Rattle.std.specs.Prelude.{◌≡◌, false, IfOk};
 ghost use Rattle.std.specs.Option.{option_copied};
-ghost use Rattle.switch_spec.specs.Answer.{write_refusal, write_answer, written, unreadable, plain, failed, read_reply, answer_to, is_atomic, atomicity_of};
-ghost use Rattle.switch_spec.specs.Status.{capabilities_bytes};
+ghost use Rattle.switch_spec.specs.Answer.{write_refusal, write_answer, written, answer_to, is_atomic, atomicity_of};
 ghost use Rattle.plane_spec.specs.Legal.{Legal};
-ghost use Rattle.plane_spec.specs.Planes.{primary as primary_session, is_of_primary, scope_of, applied, outcomes};
+ghost use Rattle.plane_spec.specs.Planes.{primary as primary_session, scope_of, applied, outcomes};
 ghost use Rattle.switch_spec.specs.History.{is_unavailable};
 ghost use Rattle.switch_spec.specs.Reading.{read_result};
-ghost use Rattle.ctl_core.specs.Prepared.{IsPrepared, Leads, Made};
+ghost use Rattle.call_outcomes.specs.Prepared.{IsPrepared};
+ghost use Rattle.ctl_core.specs.Prepared.{Leads, Made};
 
-use crate::prepared::Prepared;
-use crate::{messages, pipelines, stream, writes};
+use crate::{pipelines, stream};
+use call_outcomes::{
+    Prepared, atomicity_of, capabilities, failure, is_atomic, is_of_primary, read_reply,
+    unreadable, written,
+};
 use list_types::{ByteList, List, NoMemory};
-use p4_types::calls::{Call, Method};
+use p4_types::calls::Call;
 use p4_types::code::Code;
 use p4_types::events::{Event, Origin};
-use p4_types::messages::{ReadRequest, Uint128, WriteRequest};
+use p4_types::messages::{ReadRequest, WriteRequest};
 use plane_image::{Image, Scope};
 use plane_read::Counts;
 use plane_state::Config;
-use role_arbiter::{Session, election_number};
+use role_arbiter::Session;
 use std::alloc::Global;
 
 /// How many updates a Write may have.
 const UPDATES: usize = 4_096;
-
-// Whether an election id is that of the role's primary, and not 0.
-pub(crate) fn is_of_primary(primary: Option<&Session>, id: Uint128) -> bool
-    ensures { result ≡ is_of_primary (option_copied primary.entry) id }
-{
-    match primary {
-        None => false,
-        Some(primary) => {
-            election_number(primary.election_id) == election_number(id) && election_number(id) != 0
-        }
-    }
-}
 
 // Why a Write is refused whole, where its role has this primary, or none.
 fn write_refusal(image: &Image, primary: Option<&Session>, request: &WriteRequest) -> Option<Code>
@@ -51,27 +42,13 @@ fn write_refusal(image: &Image, primary: Option<&Session>, request: &WriteReques
     if image.target().is_none() {
         return Some(Code::FailedPrecondition);
     }
-    if writes::atomicity_of(request.atomicity).is_none() {
+    if atomicity_of(request.atomicity).is_none() {
         return Some(Code::InvalidArgument);
     }
     if request.updates.len() > UPDATES {
         return Some(Code::ResourceExhausted);
     }
     None
-}
-
-// A call that fails for this code alone.
-pub(crate) fn failure(alloc: Global, code: Code) -> Result<Prepared, NoMemory>
-    ensures answer { IfOk result (λ p. IsPrepared (failed code) p) }
-    ensures nothing { IfOk result (λ p. p.events ≡ []) }
-{
-    Ok(Prepared {
-        code,
-        messages: messages::of_code(alloc, code)?,
-        notices: List::new(alloc),
-        events: List::new(alloc),
-        packet: None,
-    })
 }
 
 // What the updates of a Write answer, which are made in the image, where the role's primary may write what the scope says.
@@ -90,8 +67,8 @@ fn updated(
     ensures steps { image.new.steps ≡ image.old.steps }
 {
     let outcomes = image.updates(alloc, scope, request.updates.as_slice())?;
-    let atomic = writes::is_atomic(writes::atomicity_of(request.atomicity));
-    let answer = writes::written(alloc, atomic, by, outcomes)?;
+    let atomic = is_atomic(atomicity_of(request.atomicity));
+    let answer = written(alloc, atomic, by, outcomes)?;
     Ok(answer)
 }
 
@@ -153,60 +130,6 @@ fn read<C: Counts>(
         Some(plane) => plane_read::read(alloc, plane, counts, request.entities.as_slice()),
         None => Ok(Err(Code::FailedPrecondition)),
     }
-}
-
-fn read_reply(alloc: Global, answer: Result<List<ByteList>, Code>) -> Result<Prepared, NoMemory>
-    ensures answer { IfOk result (λ p. IsPrepared (read_reply answer) p) }
-    ensures nothing { IfOk result (λ p. p.events ≡ []) }
-{
-    match answer {
-        Ok(messages) => Ok(Prepared {
-            code: Code::Ok,
-            messages,
-            notices: List::new(alloc),
-            events: List::new(alloc),
-            packet: None,
-        }),
-        Err(code) => failure(alloc, code),
-    }
-}
-
-// A message that is not read; one of the stream channel has no Status.
-fn unreadable(alloc: Global, method: Method) -> Result<Prepared, NoMemory>
-    ensures answer { IfOk result (λ p. IsPrepared (unreadable method) p) }
-    ensures nothing { IfOk result (λ p. p.events ≡ []) }
-{
-    match method {
-        Method::StreamChannel => Ok(bare(alloc, Code::InvalidArgument)),
-        _ => failure(alloc, Code::InvalidArgument),
-    }
-}
-
-// A code without a message.
-pub(crate) fn bare(alloc: Global, code: Code) -> Prepared
-    ensures answer { IsPrepared (plain code []) result }
-    ensures nothing { result.events ≡ [] }
-{
-    Prepared {
-        code,
-        messages: List::new(alloc),
-        notices: List::new(alloc),
-        events: List::new(alloc),
-        packet: None,
-    }
-}
-
-fn capabilities(alloc: Global) -> Result<Prepared, NoMemory>
-    ensures answer { IfOk result (λ p. IsPrepared (plain Code.Ok (capabilities_bytes ∷ [])) p) }
-    ensures nothing { IfOk result (λ p. p.events ≡ []) }
-{
-    Ok(Prepared {
-        code: Code::Ok,
-        messages: messages::of_capabilities(alloc)?,
-        notices: List::new(alloc),
-        events: List::new(alloc),
-        packet: None,
-    })
 }
 
 // The answer to a lane's call.

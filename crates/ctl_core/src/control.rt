@@ -5,11 +5,11 @@ ghost use Rattle.plane_spec.specs.Planes.{opened, applied};
 ghost use Rattle.switch_spec.specs.Answer.{answer_to};
 ghost use Rattle.switch_spec.specs.History.{is_unavailable};
 ghost use Rattle.ctl_core.specs.Core.{Handled, IsSettled, without_memory, raised};
-ghost use Rattle.ctl_core.specs.Prepared.{answer_of};
+ghost use Rattle.call_outcomes.specs.Prepared.{answer_of};
 
 use crate::calls;
-use crate::prepared::Prepared;
 use crate::press::Press;
+use call_outcomes::Prepared;
 use list_types::{List, NoMemory};
 use p4_types::calls::{Call, Reply};
 use p4_types::code::Code;
@@ -22,10 +22,19 @@ use std::marker::Model;
 
 /// The control of the switch. A contract sees its control state, how many steps there were, and how many
 /// calls each caller has made. Both counts stand still at 2^64 - 1.
-#[derive(Drop)]
 pub struct Control {
     image: Image,
     calls: [u64; 32],
+}
+
+// Written out, so that those who let one go need not look into it.
+impl Drop for Control {
+    fn drop(self) {
+        let Self {
+            image: _image,
+            calls: _,
+        } = self;
+    }
 }
 
 impl Model for Control {

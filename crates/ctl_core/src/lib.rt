@@ -3,14 +3,10 @@
 
 mod calls;
 mod control;
-mod lists;
-mod messages;
 mod packets;
 mod pipelines;
-mod prepared;
 mod press;
 mod stream;
-mod writes;
 
 pub use control::Control;
 pub use plane_read::Counts;

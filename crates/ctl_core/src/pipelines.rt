@@ -3,14 +3,12 @@ ghost use Rattle.std.specs.Prelude.{◌≡◌, ◌∷◌, [], false, is_some, If
 ghost use Rattle.std.specs.Option.{option_copied, option_map};
 ghost use Rattle.plane_spec.specs.Planes.{target, primary as primary_session};
 ghost use Rattle.switch_spec.specs.Answer.{set_reply, get_reply};
-ghost use Rattle.switch_spec.specs.Pipelines.{pipeline_action_of, unserved_action, may_set, action_refusal, refusal_by, set_refusal, makes_plane, lacks_slots, config_events, events_by, set_made, set_unless, set_result, response_type_of, shown_config, get_response_bytes, get_by, get_result};
+ghost use Rattle.switch_spec.specs.Pipelines.{pipeline_action_of, unserved_action, action_refusal, refusal_by, set_refusal, makes_plane, lacks_slots, config_events, events_by, set_made, set_unless, set_result, response_type_of, shown_config, get_response_bytes, get_by, get_result};
 ghost use Rattle.link_spec.specs.Configured.{config_meant};
-ghost use Rattle.ctl_core.specs.Prepared.{IsPrepared, Leads, Sets};
+ghost use Rattle.call_outcomes.specs.Prepared.{IsPrepared};
+ghost use Rattle.ctl_core.specs.Prepared.{Leads, Sets};
 
-use crate::calls::{failure, is_of_primary};
-use crate::lists::{copied, only};
-use crate::messages;
-use crate::prepared::Prepared;
+use call_outcomes::{Prepared, copied, get_reply, may_set, only, set_reply};
 use config_rules::configuration;
 use list_types::{ByteList, List, NoMemory, Refusal};
 use p4_types::calls::{PipelineAction, ResponseType};
@@ -24,7 +22,6 @@ use p4_types::shared::Shared;
 use p4v1_wire::write_message;
 use plane_image::Image;
 use plane_state::{Config, Plane};
-use role_arbiter::Session;
 use std::alloc::Global;
 use switch_spec::refusals::SetRefusal;
 
@@ -48,16 +45,6 @@ fn unserved_action(number: i32) -> Code
     match number {
         5 => Code::Unimplemented,
         _ => Code::InvalidArgument,
-    }
-}
-
-// Whether a role's primary, which bears this election id, may set pipelines.
-fn may_set(primary: Option<&Session>, id: Uint128) -> bool
-    ensures { result ≡ may_set (option_copied primary.entry) id }
-{
-    match primary {
-        None => false,
-        Some(session) => is_of_primary(primary, id) && session.config.is_none(),
     }
 }
 
@@ -264,32 +251,6 @@ fn set_result(
     made(alloc, image, by, request)
 }
 
-// The answer to a call that sets a pipeline.
-fn set_reply(
-    alloc: Global,
-    answer: Result<List<Event<Config>>, SetRefusal>,
-) -> Result<Prepared, NoMemory>
-    ensures answer { IfOk result (λ p. IsPrepared (set_reply answer) p) }
-{
-    match answer {
-        Ok(events) => Ok(Prepared {
-            code: Code::Ok,
-            messages: only(alloc, List::new(alloc))?,
-            notices: List::new(alloc),
-            events,
-            packet: None,
-        }),
-        Err(SetRefusal::Breaks(rule)) => Ok(Prepared {
-            code: Code::InvalidArgument,
-            messages: messages::of_rule(alloc, rule)?,
-            notices: List::new(alloc),
-            events: List::new(alloc),
-            packet: None,
-        }),
-        Err(SetRefusal::Fails(code)) => failure(alloc, code),
-    }
-}
-
 /// A pipeline is set, which is made in the image; without memory the image may be changed, which is still to be undone.
 pub(crate) fn set(
     alloc: Global,
@@ -387,14 +348,5 @@ pub(crate) fn get(
     ensures answer { IfOk result (λ p. IsPrepared (get_reply (get_result image.now.now request.now)) p) }
     ensures nothing { IfOk result (λ p. p.events ≡ []) }
 {
-    match get_result(alloc, image, request)? {
-        Err(code) => failure(alloc, code),
-        Ok(message) => Ok(Prepared {
-            code: Code::Ok,
-            messages: only(alloc, message)?,
-            notices: List::new(alloc),
-            events: List::new(alloc),
-            packet: None,
-        }),
-    }
+    get_reply(alloc, get_result(alloc, image, request)?)
 }

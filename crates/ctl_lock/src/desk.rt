@@ -37,7 +37,6 @@ pub enum Asked {
 }
 
 /// What the lanes of a run share: the control of the switch behind one lock, the table of lanes, and the bank of counters.
-#[derive(Drop)]
 pub struct TapeDesk<J: Naming, R: Wait + Drop> {
     pub(crate) alloc: Global,
     pub(crate) table: LaneTable<Signed>,
@@ -45,6 +44,19 @@ pub struct TapeDesk<J: Naming, R: Wait + Drop> {
     pub(crate) locked: Mutex<Locked<J, R>>,
     // whether a lane found no memory, so that calls which others wait for may never be made
     pub(crate) gave_up: AtomicBool,
+}
+
+// Written out, so that those who let one go need not look into it.
+impl<J: Naming, R: Wait + Drop> Drop for TapeDesk<J, R> {
+    fn drop(self) {
+        let Self {
+            alloc: _,
+            table: _table,
+            bank: _bank,
+            locked: _locked,
+            gave_up: _gave_up,
+        } = self;
+    }
 }
 
 impl<J: Naming, R: Wait + Drop> Model for TapeDesk<J, R> {
@@ -79,6 +91,22 @@ impl<J: Naming, R: Wait + Drop> TapeDesk<J, R> {
             locked: Mutex::new(locked),
             gave_up: AtomicBool::new(false),
         }
+    }
+
+    /// Where it takes memory, the table of lanes, the counters, and what stands behind the lock.
+    pub(crate) fn into_parts(self) -> (Global, LaneTable<Signed>, Bank, Locked<J, R>)
+        ensures table { result.1 ≡ J.table }
+        ensures bank { result.2 ≡ self }
+        ensures name { result.2.id ≡ J.bank }
+    {
+        let Self {
+            alloc,
+            table,
+            bank,
+            locked,
+            gave_up: _,
+        } = self;
+        (alloc, table, bank, locked.into_inner())
     }
 
     /// The counters.

@@ -114,14 +114,8 @@ impl<J: Naming, R: Wait + Drop> TapeDesk<J, R> {
     pub fn finish<W: Wait>(self, rt: &W) -> ClosedDesk<J>
         ensures bank { result.bank ≡ self }
     {
-        let TapeDesk {
-            alloc,
-            table,
-            bank,
-            locked,
-            gave_up: _,
-        } = self;
-        let (control, mut line, journal, seat) = locked.into_inner().into_parts();
+        let (alloc, table, bank, locked) = self.into_parts();
+        let (control, mut line, journal, seat) = locked.into_parts();
         close(rt, alloc, &mut line);
         line.publish();
         let told = line.tell();

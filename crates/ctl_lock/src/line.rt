@@ -18,12 +18,23 @@ use std::sync::Wait;
 use std::thread::yield_now;
 
 /// The publisher of a run's list, beside the step that each of its events is.
-#[derive(Drop)]
 pub struct Line<J: Naming, R: Wait + Drop> {
     alloc: Global,
     publisher: Publisher<R>,
     kinds: Vec<Option<Step>>,
     of: PhantomData<J>,
+}
+
+// Written out, so that those who let one go need not look into it.
+impl<J: Naming, R: Wait + Drop> Drop for Line<J, R> {
+    fn drop(self) {
+        let Self {
+            alloc: _,
+            publisher: _publisher,
+            kinds: _kinds,
+            of: _,
+        } = self;
+    }
 }
 
 impl<J: Naming, R: Wait + Drop> Model for Line<J, R> {

@@ -28,13 +28,25 @@ use std::sync::Wait;
 use switch_spec::calls::LaneCall;
 
 /// What stands behind the lock. The journal is a history, its events are those of the published list, and all lanes are claimed.
-#[derive(Drop)]
 pub struct Locked<J: Naming, R: Wait + Drop> {
     alloc: Global,
     control: Control,
     line: Line<J, R>,
     journal: Vec<Signed>,
     seat: JournalSeat<Signed>,
+}
+
+// Written out, so that those who let one go need not look into it.
+impl<J: Naming, R: Wait + Drop> Drop for Locked<J, R> {
+    fn drop(self) {
+        let Self {
+            alloc: _,
+            control: _control,
+            line: _line,
+            journal: _journal,
+            seat: _seat,
+        } = self;
+    }
 }
 
 impl<J: Naming, R: Wait + Drop> Model for Locked<J, R> {

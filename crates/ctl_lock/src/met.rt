@@ -8,13 +8,25 @@ use pub_snap::Told;
 use std::marker::{Model, PhantomData};
 
 /// A call of a controller's lane that was made, what was published then, and a note that the journal has it.
-#[derive(Drop)]
 pub struct Met<J: Naming> {
     pub(crate) lane: u16,
     pub(crate) call: u32,
     pub(crate) told: Told,
     pub(crate) note: Note<Signed>,
     pub(crate) of: PhantomData<J>,
+}
+
+// Written out, so that those who let one go need not look into it.
+impl<J: Naming> Drop for Met<J> {
+    fn drop(self) {
+        let Self {
+            lane: _,
+            call: _,
+            told: _told,
+            note: _note,
+            of: _,
+        } = self;
+    }
 }
 
 impl<J: Naming> Model for Met<J> {

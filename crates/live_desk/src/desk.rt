@@ -25,13 +25,25 @@ use std::thread::yield_now;
 
 /// What callers share: the control of the switch and what waits for controllers behind one lock, the table of lanes, and the bank of
 /// counters. It owns what waiting needs.
-#[derive(Drop)]
 pub struct LiveDesk<J: Naming, R: Wait + Drop> {
     pub(crate) alloc: Global,
     pub(crate) rt: R,
     pub(crate) table: LaneTable<CallSteps>,
     pub(crate) bank: Bank,
     pub(crate) live: Mutex<Live<J, R>>,
+}
+
+// Written out, so that those who let one go need not look into it.
+impl<J: Naming, R: Wait + Drop> Drop for LiveDesk<J, R> {
+    fn drop(self) {
+        let Self {
+            alloc: _,
+            rt: _rt,
+            table: _table,
+            bank: _bank,
+            live: _live,
+        } = self;
+    }
 }
 
 impl<J: Naming, R: Wait + Drop> Model for LiveDesk<J, R> {
@@ -67,6 +79,22 @@ impl<J: Naming, R: Wait + Drop> LiveDesk<J, R> {
             bank,
             live: Mutex::new(live),
         }
+    }
+
+    /// The table of lanes, the counters, and what stands behind the lock.
+    pub(crate) fn into_parts(self) -> (LaneTable<CallSteps>, Bank, Live<J, R>)
+        ensures table { result.0 ≡ J.table }
+        ensures bank { result.1 ≡ self }
+        ensures name { result.1.id ≡ J.bank }
+    {
+        let Self {
+            alloc: _,
+            rt: _rt,
+            table,
+            bank,
+            live,
+        } = self;
+        (table, bank, live.into_inner())
     }
 
     /// The counters.

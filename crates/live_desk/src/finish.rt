@@ -63,14 +63,8 @@ impl<J: Naming, R: Wait + Drop> LiveDesk<J, R> {
     pub fn finish(self) -> ClosedDesk<J>
         ensures bank { result.bank ≡ self }
     {
-        let LiveDesk {
-            alloc: _,
-            rt: _rt,
-            table,
-            bank,
-            live,
-        } = self;
-        let (told, seat) = live.into_inner().into_locked().into_parts();
+        let (table, bank, live) = self.into_parts();
+        let (told, seat) = live.into_locked().into_parts();
         ClosedDesk {
             table,
             seat,

@@ -14,10 +14,19 @@ use std::marker::{Model, PhantomData};
 use std::sync::Wait;
 
 /// The publisher of a desk's list.
-#[derive(Drop)]
 pub struct Line<J: Naming, R: Wait + Drop> {
     publisher: Publisher<R>,
     of: PhantomData<J>,
+}
+
+// Written out, so that those who let one go need not look into it.
+impl<J: Naming, R: Wait + Drop> Drop for Line<J, R> {
+    fn drop(self) {
+        let Self {
+            publisher: _publisher,
+            of: _,
+        } = self;
+    }
 }
 
 impl<J: Naming, R: Wait + Drop> Model for Line<J, R> {

@@ -27,11 +27,21 @@ use std::marker::Model;
 use std::sync::Wait;
 
 /// What stands behind the lock: the control with its published list, and what waits for controllers.
-#[derive(Drop)]
 pub struct Live<J: Naming, R: Wait + Drop> {
     locked: Locked<J, R>,
     mail: Mail<DeskTold<J>>,
     moment: u64,
+}
+
+// Written out, so that those who let one go need not look into it.
+impl<J: Naming, R: Wait + Drop> Drop for Live<J, R> {
+    fn drop(self) {
+        let Self {
+            locked: _locked,
+            mail: _mail,
+            moment: _,
+        } = self;
+    }
 }
 
 impl<J: Naming, R: Wait + Drop> Model for Live<J, R> {
@@ -221,6 +231,11 @@ impl<J: Naming, R: Wait + Drop> Live<J, R> {
     pub fn into_locked(self) -> Locked<J, R>
         ensures { result ≡ self.locking }
     {
-        self.locked
+        let Self {
+            locked,
+            mail: _mail,
+            moment: _,
+        } = self;
+        locked
     }
 }

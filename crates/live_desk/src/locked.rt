@@ -32,12 +32,23 @@ use std::sync::Wait;
 
 /// What stands behind the lock. The control is that after the published list, which has of each lane as many events as its calls
 /// made steps.
-#[derive(Drop)]
 pub struct Locked<J: Naming, R: Wait + Drop> {
     alloc: Global,
     control: Control,
     line: Line<J, R>,
     seat: JournalSeat<CallSteps>,
+}
+
+// Written out, so that those who let one go need not look into it.
+impl<J: Naming, R: Wait + Drop> Drop for Locked<J, R> {
+    fn drop(self) {
+        let Self {
+            alloc: _,
+            control: _control,
+            line: _line,
+            seat: _seat,
+        } = self;
+    }
 }
 
 impl<J: Naming, R: Wait + Drop> Model for Locked<J, R> {

@@ -14,9 +14,15 @@ use std::sync::Wait;
 pub(crate) type Log = EventLog<Listed, Led>;
 
 /// Events with which the published list begins, and will begin for good. It goes from thread to thread.
-#[derive(Drop)]
 pub struct Told {
     known: event_log::Told<Listed, Led>,
+}
+
+// Written out, so that those who let one go need not look into it.
+impl Drop for Told {
+    fn drop(self) {
+        let Self { known: _known } = self;
+    }
 }
 
 impl Model for Told {

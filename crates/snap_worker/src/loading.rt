@@ -11,9 +11,15 @@ use std::marker::Model;
 
 /// What counters had counted where somebody asked: the packets and bytes of each slot, from slot 0 on, each modulo 2^64; those of
 /// later slots are 0. A contract sees them as a list.
-#[derive(Drop)]
 pub struct Loaded {
     figures: List<(u64, u64)>,
+}
+
+// Written out, so that those who let one go need not look into it.
+impl Drop for Loaded {
+    fn drop(self) {
+        let Self { figures: _figures } = self;
+    }
 }
 
 impl Model for Loaded {

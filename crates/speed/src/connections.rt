@@ -41,24 +41,39 @@ pub fn bytes_of_client<R: AllocGlobal>(rt: &R, request: &[u8]) -> io::Result<Vec
     Ok(bytes)
 }
 
+// Feeds a piece, and takes what is to be sent after it. How many events there were.
+fn feed<R: AllocGlobal>(rt: &R, conn: &mut Conn, piece: &[u8]) -> io::Result<u64> {
+    let Ok((given, code)) = conn.feed(rt.alloc(), piece) else {
+        return Err(out_of_memory());
+    };
+    let events = given.len() as u64;
+    drop(given);
+    if code.is_some() {
+        return Err(Error::from(ErrorKind::InvalidData));
+    }
+    drop(conn.take_output(rt.alloc()));
+    Ok(events)
+}
+
+fn feed_each<R: AllocGlobal>(rt: &R, conn: &mut Conn, bytes: &[u8], size: usize) -> io::Result<u64>
+    requires { 0 < size }
+{
+    let mut events = 0u64;
+    for piece in bytes.chunks(size) {
+        events = events.wrapping_add(feed(rt, conn, piece)?);
+    }
+    Ok(events)
+}
+
 fn feed_all<R: Clock + AllocGlobal>(rt: &R, bytes: &[u8], size: usize) -> io::Result<u64>
     requires { 0 < size }
 {
     let Ok(mut conn) = Conn::new(rt.alloc()) else {
         return Err(out_of_memory());
     };
-    let mut events = 0u64;
-    for piece in bytes.chunks(size) {
-        let Ok((given, code)) = conn.feed(rt.alloc(), piece) else {
-            return Err(out_of_memory());
-        };
-        if code.is_some() {
-            return Err(Error::from(ErrorKind::InvalidData));
-        }
-        events = events.wrapping_add(given.len() as u64);
-        let _ = conn.take_output(rt.alloc());
-    }
-    Ok(events)
+    let events = feed_each(rt, &mut conn, bytes, size);
+    drop(conn);
+    events
 }
 
 /// Feeds the bytes to a connection in pieces of a size, and takes what is to be sent after each.

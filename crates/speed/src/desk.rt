@@ -2,7 +2,9 @@
 // thread of its own, beside a writer that makes the calls of lane 1 in turn.
 mod asking;
 mod dealing;
+mod live;
 mod looking;
+mod measured;
 mod running;
 mod working;
 

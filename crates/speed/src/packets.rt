@@ -49,8 +49,21 @@ fn both(
     ensures left { IfOk result (λ pair. pair.0.value ≡ left) }
     ensures right { IfOk result (λ pair. pair.1.value ≡ right) }
 {
-    let left = Box::new(alloc, left)?;
-    Ok((left, Box::new(alloc, right)?))
+    // a number that ends with its scope would be let go part by part in this proof
+    let left = match Box::new(alloc, left) {
+        Ok(left) => left,
+        Err(error) => {
+            drop(right);
+            return Err(error);
+        }
+    };
+    match Box::new(alloc, right) {
+        Ok(right) => Ok((left, right)),
+        Err(error) => {
+            drop(left);
+            Err(error)
+        }
+    }
 }
 
 // ((datum 0 + 3) * 5) ^ datum 0
@@ -66,20 +79,36 @@ fn expression(alloc: Global) -> Result<Number, AllocError>
     Ok(Number::new(NumberNode::BitXor(left, right)))
 }
 
-/// Computes an expression of three operators again and again.
-pub fn expressions<R: Clock + AllocGlobal>(rt: &R) -> io::Result<Measured> {
-    let alloc = rt.alloc();
-    let (Ok(store), Ok(number)) = (Store::open(alloc, 0, 0), expression(alloc)) else {
-        return Err(io::Error::from(io::ErrorKind::OutOfMemory));
-    };
+// Computes a number of one datum again and again.
+fn computed<R: Clock>(rt: &R, number: &Number, store: &Store) -> Measured
+    requires in_store { (args : List ℕ) → 0 < length args → NumberInStore store.now args number.now }
+{
     let before = nanoseconds(rt);
     let mut sum = 0u128;
     for datum in 0..TIMES {
-        sum = sum.wrapping_add(value(&number, &store, &[u128::from(datum)]));
+        sum = sum.wrapping_add(value(number, store, &[u128::from(datum)]));
     }
     let after = nanoseconds(rt);
-    Ok(Measured {
+    Measured {
         hundredths: hundredths(before, after),
         sum,
-    })
+    }
+}
+
+/// Computes an expression of three operators again and again.
+pub fn expressions<R: Clock + AllocGlobal>(rt: &R) -> io::Result<Measured> {
+    let alloc = rt.alloc();
+    let Ok(store) = Store::open(alloc, 0, 0) else {
+        return Err(io::Error::from(io::ErrorKind::OutOfMemory));
+    };
+    let measured = match expression(alloc) {
+        Ok(number) => {
+            let measured = computed(rt, &number, &store);
+            drop(number);
+            Ok(measured)
+        }
+        Err(_) => Err(io::Error::from(io::ErrorKind::OutOfMemory)),
+    };
+    drop(store);
+    measured
 }

@@ -122,7 +122,9 @@ fn filled(alloc: Global, routes: u32) -> Result<TableStore, NoMemory>
     let mut store = TableStore::open(alloc);
     for number in 0..routes {
         let change = route(ROUTES, number);
-        if !put(alloc, &mut store, &table, &change, number) {
+        let is_put = put(alloc, &mut store, &table, &change, number);
+        drop(change);
+        if !is_put {
             drop(store);
             drop(table);
             return Err(NoMemory);
@@ -241,6 +243,7 @@ pub fn look_ups<R: Clock + AllocGlobal>(rt: &R, routes: u32) -> io::Result<Measu
     drop(store);
     drop(asked);
     drop(other);
+    drop(change);
     Ok(Measured {
         find: hundredths(start, middle),
         best: hundredths(middle, found_both),

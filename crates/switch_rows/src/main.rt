@@ -4,6 +4,7 @@
 //! - `desk` is what callers and workers do at the desk of a switch that serves.
 #![tactic(auto)]
 
+mod desks;
 mod opening;
 mod runs;
 mod stage;

@@ -18,12 +18,13 @@
 //!
 //! METHOD is `write`, `read`, `set`, `get`, `stream` or `capabilities`, HEX is bytes, of which `.` has none, and NOW is in nanoseconds.
 //! In the end the desk is closed and each pass is compared with it, and the number of steps is told.
-ghost use Rattle.std.specs.Prelude.{◌≡◌};
+ghost use Rattle.std.specs.Prelude.{◌≡◌, ◌≤◌};
 ghost use Rattle.live_desk.specs.Opening.{AreParts};
 
-use crate::stage::{Stage, verdicts_of};
+use crate::desks::RowDesk;
+use crate::stage::{DeskStage, verdicts_of};
 use crate::steps::answer_steps;
-use live_desk::{LiveDesk, Naming, Parts, Pass, open_desk, open_parts};
+use live_desk::{Naming, Parts, open_desk, open_parts};
 use p4_types::events::Start;
 use pkt_worker::Verdict;
 use pub_snap::Publisher;
@@ -35,25 +36,26 @@ use std::sync::Wait;
 /// How many workers a desk has at most.
 const MOST_WORKERS: usize = 16;
 
-// Closes the desk, compares each pass with it, and tells how many steps there were.
-fn close<J: Naming, R: Wait + Drop, W: Wait>(
+// Does the steps of a row at a desk with these passes, the highest lane first, and these workers, and closes it.
+fn answer_at<W: Wait, D: RowDesk>(
     rt: &W,
-    desk: LiveDesk<J, R>,
-    passes: Vec<Pass<J>>,
+    alloc: Global,
+    desk: D,
+    passes: Vec<D::Pass>,
+    workers: Vec<D::Worker>,
+    verdicts: Vec<Verdict>,
+    steps: &[&str],
     told: &mut String,
 ) -> Result<(), NoAnswer> {
-    let mut closed = desk.finish();
-    for mut pass in passes {
-        closed.agree(rt, &mut pass);
-        drop(pass);
-    }
-    let steps = closed.told().len();
-    drop(closed);
+    let mut stage = DeskStage::new(rt, desk, passes, workers, verdicts);
+    say(told, "open");
+    let done = answer_steps(alloc, &mut stage, steps, told);
+    let steps = stage.close();
     write!(told, "\n> end {steps}")?;
-    Ok(())
+    done
 }
 
-// Does the steps of a row at the desk of these names.
+// Answers a row at the desk of these names.
 fn play<'a, J: Naming, T: Wait>(
     rt: &'a T,
     alloc: Global,
@@ -74,28 +76,25 @@ fn play<'a, J: Naming, T: Wait>(
     else {
         return Err(NoAnswer);
     };
-    let mut stage = Stage {
-        rt,
-        desk,
-        passes,
-        workers,
-        verdicts,
+    answer_at(rt, alloc, desk, passes, workers, verdicts, steps, told)
+}
+
+// Answers a row at a desk that starts so, with so many workers.
+fn open_and_play<T: Wait>(
+    rt: &T,
+    alloc: Global,
+    start: Start,
+    workers: usize,
+    verdicts: Vec<Verdict>,
+    steps: &[&str],
+    told: &mut String,
+) -> Result<(), NoAnswer>
+    requires { workers ≤ 16 }
+{
+    let Ok((publisher, parts)) = open_parts(rt, alloc, &start, workers) else {
+        return Err(NoAnswer);
     };
-    // The desk gives the highest lane first.
-    stage.passes.reverse();
-    say(told, "open");
-    let done = answer_steps(alloc, &mut stage, steps, told);
-    let Stage {
-        rt: _,
-        desk,
-        passes,
-        workers,
-        verdicts,
-    } = stage;
-    drop(workers);
-    drop(verdicts);
-    close(rt, desk, passes, told)?;
-    done
+    play::<Brand, T>(rt, alloc, start, publisher, parts, verdicts, steps, told)
 }
 
 // With what a desk opens, and with how many workers.
@@ -127,8 +126,5 @@ pub fn answer<T: Wait>(
         return Err(NoAnswer);
     }
     let verdicts = verdicts_of(alloc, workers)?;
-    let Ok((publisher, parts)) = open_parts(rt, alloc, &start, workers) else {
-        return Err(NoAnswer);
-    };
-    play::<Brand, T>(rt, alloc, start, publisher, parts, verdicts, steps, told)
+    open_and_play(rt, alloc, start, workers, verdicts, steps, told)
 }

@@ -1,18 +1,37 @@
 //! The steps of a row of a desk.
 use crate::stage::Stage;
-use crate::telling::{tell_next, tell_output, tell_reply, tell_run, tell_verdict};
+use crate::telling::{tell_next, tell_number, tell_output, tell_reply, tell_run, tell_verdict};
 use crate::words::words_of;
-use desk_service::ServedDesk;
-use live_desk::{DeskTold, DeskWorker, LiveDesk, Naming, Pass};
 use p4_types::calls::{Call, Method};
-use p4rt_service::Desk;
 use p4v1_wire::read_call;
-use ports_loop::{PortsEnd, serve_ports};
-use real_net::ListStop;
 use row_lines::{NoAnswer, bytes};
 use std::alloc::Global;
-use std::sync::Wait;
-use sw_edge::{Arrival, ListClock, MAX_PACKET, MAX_PORT, MemoryPorts};
+use sw_edge::{Arrival, MAX_PACKET, MAX_PORT, MemoryPorts};
+
+// What a step does.
+#[derive(Clone, Copy)]
+enum Verb {
+    Call,
+    Leave,
+    Next,
+    Packet,
+    Run,
+    Deliver,
+    Tell,
+}
+
+fn verb_of(word: &str) -> Result<Verb, NoAnswer> {
+    match word {
+        "call" => Ok(Verb::Call),
+        "leave" => Ok(Verb::Leave),
+        "next" => Ok(Verb::Next),
+        "packet" => Ok(Verb::Packet),
+        "run" => Ok(Verb::Run),
+        "deliver" => Ok(Verb::Deliver),
+        "tell" => Ok(Verb::Tell),
+        _ => Err(NoAnswer),
+    }
+}
 
 fn method_of(word: &str) -> Result<Method, NoAnswer> {
     match word {
@@ -39,81 +58,93 @@ fn call_of(alloc: Global, method: &str, word: &str) -> Result<Call, NoAnswer> {
     Ok(read_call(alloc, method, &message)?)
 }
 
-// A call of a lane.
-fn ask<J: Naming, R: Wait + Drop>(
+// A lane's call.
+fn ask<S: Stage>(
     alloc: Global,
-    stage: &mut Stage<J, R>,
-    lane: usize,
+    stage: &mut S,
+    lane: &str,
     call: &Call,
     told: &mut String,
 ) -> Result<(), NoAnswer> {
-    let Some(pass) = stage.passes.get_mut(lane) else {
+    let Some(reply) = stage.call(alloc, lane.parse::<usize>()?, call) else {
         return Err(NoAnswer);
     };
-    let reply = ServedDesk::new(&stage.desk).ask(alloc, pass, call);
     let done = tell_reply(alloc, &reply, told);
     drop(reply);
     done
 }
 
-// A call of a lane by this method, with this message.
-fn call<J: Naming, R: Wait + Drop>(
+// A lane's call by a method, with a message.
+fn call<S: Stage>(
     alloc: Global,
-    stage: &mut Stage<J, R>,
-    lane: &str,
-    method: &str,
-    word: &str,
+    stage: &mut S,
+    words: &[&str],
     told: &mut String,
 ) -> Result<(), NoAnswer> {
-    let lane = lane.parse::<usize>()?;
+    let [lane, method, word] = words else {
+        return Err(NoAnswer);
+    };
     let call = call_of(alloc, method, word)?;
     let done = ask(alloc, stage, lane, &call, told);
     drop(call);
     done
 }
 
-// Tells how many steps a pass knows.
-fn tell_known<J: Naming>(pass: &Pass<J>, told: &mut String) -> Result<(), NoAnswer> {
-    let steps = pass.told().len();
-    write!(told, " knows {steps}")?;
-    Ok(())
+// The end of a lane's stream.
+fn leave<S: Stage>(
+    alloc: Global,
+    stage: &mut S,
+    words: &[&str],
+    told: &mut String,
+) -> Result<(), NoAnswer> {
+    let [lane] = words else {
+        return Err(NoAnswer);
+    };
+    ask(alloc, stage, lane, &Call::Leave, told)
+}
+
+// Two numbers, and no other word.
+fn two_of(words: &[&str]) -> Result<(usize, u64), NoAnswer> {
+    let [one, other] = words else {
+        return Err(NoAnswer);
+    };
+    Ok((one.parse::<usize>()?, other.parse::<u64>()?))
+}
+
+// Tells how many steps a lane knows.
+fn tell_known<S: Stage>(stage: &S, lane: usize, told: &mut String) -> Result<(), NoAnswer> {
+    let Some(steps) = stage.known(lane) else {
+        return Err(NoAnswer);
+    };
+    tell_number("knows", steps, told)
 }
 
 // What a lane is given at a moment.
-fn next<J: Naming, R: Wait + Drop>(
+fn give<S: Stage>(
     alloc: Global,
-    stage: &mut Stage<J, R>,
-    lane: &str,
-    now: &str,
+    stage: &mut S,
+    lane: usize,
+    now: u64,
     told: &mut String,
 ) -> Result<(), NoAnswer> {
-    let lane = lane.parse::<usize>()?;
-    let now = now.parse::<u64>()?;
-    let Some(pass) = stage.passes.get_mut(lane) else {
+    let Some(next) = stage.next(alloc, lane, now) else {
         return Err(NoAnswer);
     };
-    let next = ServedDesk::new(&stage.desk).next(alloc, pass, now);
     let done = tell_next(alloc, &next, told);
     drop(next);
-    done?;
-    tell_known(pass, told)
+    done
 }
 
-// Carries a packet from ports, whose clock is at a moment, to their end. It promises nothing, so that the rows do not carry what
-// `serve_ports` does.
-fn carry<J: Naming, R: Wait + Drop>(
-    rt: &R,
+// What a lane is given at a moment, and how many steps it knows then.
+fn next<S: Stage>(
     alloc: Global,
-    ports: &mut MemoryPorts,
-    desk: &LiveDesk<J, R>,
-    worker: &mut DeskWorker<J>,
-    now: u64,
-) -> Result<PortsEnd, NoAnswer> {
-    let mut moments = Vec::new(alloc);
-    moments.push(now)?;
-    let mut clock = ListClock::new(moments);
-    let mut stop = ListStop::new(Vec::new(alloc));
-    Ok(serve_ports(rt, alloc, ports, &mut stop, desk, worker, &mut clock))
+    stage: &mut S,
+    words: &[&str],
+    told: &mut String,
+) -> Result<(), NoAnswer> {
+    let (lane, now) = two_of(words)?;
+    give(alloc, stage, lane, now, told)?;
+    tell_known(stage, lane, told)
 }
 
 // Ports at one of which this packet comes, and no other.
@@ -137,155 +168,119 @@ fn tell_sent(alloc: Global, ports: &MemoryPorts, told: &mut String) -> Result<()
 }
 
 // What comes at a worker's ports, to their end.
-fn work<J: Naming, R: Wait + Drop>(
+fn work<S: Stage>(
     alloc: Global,
-    stage: &mut Stage<J, R>,
-    worker: usize,
+    stage: &mut S,
     ports: &mut MemoryPorts,
-    now: u64,
-    told: &mut String,
-) -> Result<(), NoAnswer> {
-    let Some(worker) = stage.workers.get_mut(worker) else {
-        return Err(NoAnswer);
-    };
-    let PortsEnd::Closed = carry(&stage.rt, alloc, ports, &stage.desk, worker, now)? else {
-        return Err(NoAnswer);
-    };
-    tell_run(worker.steps(), worker.receiver(), told)
-}
-
-// A packet at a worker's ports.
-fn packet<J: Naming, R: Wait + Drop>(
-    alloc: Global,
-    stage: &mut Stage<J, R>,
     worker: &str,
-    port: &str,
     now: &str,
-    word: &str,
     told: &mut String,
 ) -> Result<(), NoAnswer> {
     let worker = worker.parse::<usize>()?;
     let now = now.parse::<u64>()?;
+    let Some(run) = stage.carry(alloc, worker, ports, now) else {
+        return Err(NoAnswer);
+    };
+    tell_run(run, told)
+}
+
+// A packet at a worker's ports.
+fn packet<S: Stage>(
+    alloc: Global,
+    stage: &mut S,
+    words: &[&str],
+    told: &mut String,
+) -> Result<(), NoAnswer> {
+    let [worker, port, now, word] = words else {
+        return Err(NoAnswer);
+    };
     let mut ports = ports_of(alloc, port, word)?;
-    work(alloc, stage, worker, &mut ports, now, told)?;
+    work(alloc, stage, &mut ports, worker, now, told)?;
     tell_sent(alloc, &ports, told)
 }
 
 // These bytes as a packet that a worker runs.
-fn run_bytes<J: Naming, R: Wait + Drop>(
+fn run_bytes<S: Stage>(
     alloc: Global,
-    stage: &mut Stage<J, R>,
-    worker: usize,
+    stage: &mut S,
+    worker: &str,
     port: u16,
     packet: &[u8],
     told: &mut String,
 ) -> Result<(), NoAnswer> {
-    if packet.len() > MAX_PACKET {
-        return Err(NoAnswer);
-    }
-    let Some(verdict) = stage.verdicts.get_mut(worker) else {
+    let worker = worker.parse::<usize>()?;
+    let Some(run) = stage.run(worker, port, packet) else {
         return Err(NoAnswer);
     };
-    let Some(worker) = stage.workers.get_mut(worker) else {
+    tell_run(run, told)?;
+    let Some(verdict) = stage.verdict(worker) else {
         return Err(NoAnswer);
     };
-    stage.desk.run(worker, port, packet, verdict);
-    tell_run(worker.steps(), worker.receiver(), told)?;
     tell_verdict(alloc, verdict, told)
 }
 
 // A packet that a worker runs, of which nothing is handed on.
-fn run<J: Naming, R: Wait + Drop>(
+fn run<S: Stage>(
     alloc: Global,
-    stage: &mut Stage<J, R>,
-    worker: &str,
-    port: &str,
-    word: &str,
+    stage: &mut S,
+    words: &[&str],
     told: &mut String,
 ) -> Result<(), NoAnswer> {
-    let worker = worker.parse::<usize>()?;
+    let [worker, port, word] = words else {
+        return Err(NoAnswer);
+    };
     let port = port.parse::<u16>()?;
     let packet = bytes_of(alloc, word)?;
     run_bytes(alloc, stage, worker, port, &packet, told)
 }
 
 // Hands on what the last packet that a worker ran gives to controllers.
-fn deliver<J: Naming, R: Wait + Drop>(
-    stage: &mut Stage<J, R>,
-    worker: &str,
-    now: &str,
-    told: &mut String,
-) -> Result<(), NoAnswer> {
-    let worker = worker.parse::<usize>()?;
-    let now = now.parse::<u64>()?;
-    let Some(verdict) = stage.verdicts.get(worker) else {
+fn deliver<S: Stage>(stage: &S, words: &[&str], told: &mut String) -> Result<(), NoAnswer> {
+    let (worker, now) = two_of(words)?;
+    if stage.deliver(worker, now).is_none() {
         return Err(NoAnswer);
-    };
-    let Some(worker) = stage.workers.get(worker) else {
-        return Err(NoAnswer);
-    };
-    stage.desk.deliver(worker.receiver(), verdict, now);
+    }
     told.push_str(" delivered")?;
     Ok(())
 }
 
-// A lane learns this.
-fn learn<J: Naming, R: Wait + Drop>(
-    stage: &mut Stage<J, R>,
-    lane: usize,
-    news: &DeskTold<J>,
-    told: &mut String,
-) -> Result<(), NoAnswer> {
-    let Some(pass) = stage.passes.get_mut(lane) else {
-        return Err(NoAnswer);
-    };
-    stage.desk.learn(pass, news);
-    tell_known(pass, told)
-}
-
 // A lane learns what another tells.
-fn tell<J: Naming, R: Wait + Drop>(
-    stage: &mut Stage<J, R>,
-    from: &str,
-    to: &str,
-    told: &mut String,
-) -> Result<(), NoAnswer> {
-    let from = from.parse::<usize>()?;
-    let to = to.parse::<usize>()?;
-    let Some(pass) = stage.passes.get(from) else {
+fn tell<S: Stage>(stage: &mut S, words: &[&str], told: &mut String) -> Result<(), NoAnswer> {
+    let [from, to] = words else {
         return Err(NoAnswer);
     };
-    let news = stage.desk.tell(pass);
-    let done = learn(stage, to, &news, told);
-    drop(news);
-    done
+    let to = to.parse::<usize>()?;
+    if stage.teach(from.parse::<usize>()?, to).is_none() {
+        return Err(NoAnswer);
+    }
+    tell_known(stage, to, told)
 }
 
 // One step of these words, which is no repetition.
-fn do_words<J: Naming, R: Wait + Drop>(
+fn do_words<S: Stage>(
     alloc: Global,
-    stage: &mut Stage<J, R>,
+    stage: &mut S,
     words: &[&str],
     told: &mut String,
 ) -> Result<(), NoAnswer> {
-    match words {
-        ["call", lane, method, word] => call(alloc, stage, lane, method, word, told),
-        ["leave", lane] => ask(alloc, stage, lane.parse::<usize>()?, &Call::Leave, told),
-        ["next", lane, now] => next(alloc, stage, lane, now, told),
-        ["run", worker, port, word] => run(alloc, stage, worker, port, word, told),
-        ["deliver", worker, now] => deliver(stage, worker, now, told),
-        ["packet", worker, port, now, word] => {
-            packet(alloc, stage, worker, port, now, word, told)
-        }
-        ["tell", from, to] => tell(stage, from, to, told),
-        _ => Err(NoAnswer),
+    let [verb, words @ ..] = words else {
+        return Err(NoAnswer);
+    };
+    match verb_of(verb)? {
+        Verb::Call => call(alloc, stage, words, told),
+        Verb::Leave => leave(alloc, stage, words, told),
+        Verb::Next => next(alloc, stage, words, told),
+        Verb::Packet => packet(alloc, stage, words, told),
+        Verb::Run => run(alloc, stage, words, told),
+        Verb::Deliver => deliver(stage, words, told),
+        Verb::Tell => tell(stage, words, told),
     }
 }
 
 // One step, which is no repetition.
-fn do_step<J: Naming, R: Wait + Drop>(
+fn do_step<S: Stage>(
     alloc: Global,
-    stage: &mut Stage<J, R>,
+    stage: &mut S,
     step: &str,
     told: &mut String,
 ) -> Result<(), NoAnswer> {
@@ -302,11 +297,7 @@ fn tell_times(times: u32, answer: &str, told: &mut String) -> Result<(), NoAnswe
 }
 
 // Does steps one after another, and gives their answers.
-fn answers_of<J: Naming, R: Wait + Drop>(
-    alloc: Global,
-    stage: &mut Stage<J, R>,
-    steps: &str,
-) -> Result<String, NoAnswer> {
+fn answers_of<S: Stage>(alloc: Global, stage: &mut S, steps: &str) -> Result<String, NoAnswer> {
     let mut answers = String::from_str(alloc, "times")?;
     for step in steps.split(';') {
         do_step(alloc, stage, step, &mut answers)?;
@@ -315,9 +306,9 @@ fn answers_of<J: Naming, R: Wait + Drop>(
 }
 
 // Does steps so often, and tells their answers, the same ones in a row once.
-fn repeat<J: Naming, R: Wait + Drop>(
+fn repeat<S: Stage>(
     alloc: Global,
-    stage: &mut Stage<J, R>,
+    stage: &mut S,
     times: u32,
     steps: &str,
     told: &mut String,
@@ -337,9 +328,9 @@ fn repeat<J: Naming, R: Wait + Drop>(
 }
 
 // Does a step, and tells its answer on a line of its own.
-fn answer_step<J: Naming, R: Wait + Drop>(
+fn answer_step<S: Stage>(
     alloc: Global,
-    stage: &mut Stage<J, R>,
+    stage: &mut S,
     step: &str,
     told: &mut String,
 ) -> Result<(), NoAnswer> {
@@ -354,9 +345,9 @@ fn answer_step<J: Naming, R: Wait + Drop>(
 }
 
 /// Does the steps of a row one after another, and tells the answer to each.
-pub fn answer_steps<J: Naming, R: Wait + Drop>(
+pub fn answer_steps<S: Stage>(
     alloc: Global,
-    stage: &mut Stage<J, R>,
+    stage: &mut S,
     steps: &[&str],
     told: &mut String,
 ) -> Result<(), NoAnswer> {

@@ -9,6 +9,12 @@ use pkt_worker::Verdict;
 use row_lines::{NoAnswer, say, tell_hex};
 use std::alloc::Global;
 
+/// Tells a number behind a word.
+pub fn tell_number(word: &str, number: u64, told: &mut String) -> Result<(), NoAnswer> {
+    write!(told, " {word} {number}")?;
+    Ok(())
+}
+
 fn tell_message(
     alloc: Global,
     message: &StreamMessageResponse,
@@ -26,7 +32,7 @@ pub fn tell_output(
     bytes: &[u8],
     told: &mut String,
 ) -> Result<(), NoAnswer> {
-    write!(told, " output {port}")?;
+    tell_number("output", u64::from(port), told)?;
     tell_hex(alloc, told, bytes);
     Ok(())
 }
@@ -38,14 +44,12 @@ fn tell_bytes(alloc: Global, word: &str, bytes: &ByteList, told: &mut String) {
 
 /// Tells a reply as its caller gets it.
 pub fn tell_reply(alloc: Global, reply: &Reply, told: &mut String) -> Result<(), NoAnswer> {
-    let code = reply.code.number();
-    write!(told, " code {code}")?;
+    tell_number("code", u64::from(reply.code.number()), told)?;
     for message in reply.messages.as_slice() {
         tell_bytes(alloc, "message", message, told);
     }
     for notice in reply.notices.as_slice() {
-        let lane = notice.lane;
-        write!(told, " notice {lane}")?;
+        tell_number("notice", u64::from(notice.lane), told)?;
         tell_message(alloc, &notice.message, told)?;
     }
     if let Some(packet) = &reply.packet {
@@ -70,12 +74,19 @@ pub fn tell_next(alloc: Global, next: &Option<Next>, told: &mut String) -> Resul
     Ok(())
 }
 
-/// Tells of a packet that it was run after so many steps, while role 0 had this primary.
-pub fn tell_run(steps: u64, primary: Option<u16>, told: &mut String) -> Result<(), NoAnswer> {
-    write!(told, " after {steps}")?;
-    match primary {
+/// After how many steps a worker's last packet was run, and the lane of the primary of role 0 then.
+#[derive(Clone, Copy)]
+pub struct LastRun {
+    pub steps: u64,
+    pub primary: Option<u16>,
+}
+
+/// Tells after what a packet was run.
+pub fn tell_run(run: LastRun, told: &mut String) -> Result<(), NoAnswer> {
+    tell_number("after", run.steps, told)?;
+    match run.primary {
         None => say(told, "primary -"),
-        Some(lane) => write!(told, " primary {lane}")?,
+        Some(lane) => tell_number("primary", u64::from(lane), told)?,
     }
     Ok(())
 }

@@ -59,6 +59,16 @@ pub struct Made {
     pub steps: u64,
 }
 
+impl Made {
+    /// With what came of later calls.
+    pub fn and_then(self, later: Made) -> Made {
+        Made {
+            ok: self.ok.saturating_add(later.ok),
+            steps: later.steps,
+        }
+    }
+}
+
 /// What came of a plan: the calls that were made first, the work of so many workers, the writer's calls, and how long the work took.
 #[derive(Clone, Copy)]
 pub struct Ran {

@@ -1,10 +1,10 @@
 // Snapshots, entered and left.
 use crate::desk::asking::Done;
 use crate::desk::dealing::Load;
+use crate::desk::measured::Worker;
 use crate::router::memory_of_run;
 use list_types::NoMemory;
-use pkt_worker::{Scratch, Verdict, run};
-use pub_snap::{View, Viewer};
+use pkt_worker::{Scratch, Verdict};
 use std::alloc::Global;
 
 /// What a worker looks with: its packets, and the memory that they need while they run.
@@ -31,24 +31,8 @@ impl Sight {
     }
 }
 
-// The port at which a packet leaves, if it leaves at one.
-fn port_in(view: &View, load: &Load, scratch: &mut Scratch, verdict: &mut Verdict) -> Option<u16> {
-    let image = view.image();
-    let packet = load.packet.as_slice();
-    run(
-        image.active(),
-        image.cpu(),
-        load.port,
-        packet,
-        scratch,
-        verdict,
-    );
-    let (port, _) = verdict.output(0)?;
-    Some(port)
-}
-
 // Whether all packets leave, and at one port.
-fn is_whole(view: &View, sight: &mut Sight) -> bool {
+fn is_whole<W: Worker>(view: &W::View, sight: &mut Sight) -> bool {
     let Sight {
         loads,
         verdict,
@@ -56,7 +40,7 @@ fn is_whole(view: &View, sight: &mut Sight) -> bool {
     } = sight;
     let mut all = None;
     for load in loads.as_slice() {
-        let port = port_in(view, load, scratch, verdict);
+        let port = W::port(view, load, scratch, verdict);
         if port.is_none() || (all.is_some() && all != port) {
             return false;
         }
@@ -66,10 +50,10 @@ fn is_whole(view: &View, sight: &mut Sight) -> bool {
 }
 
 // Adds a snapshot to what was done.
-fn note(view: &View, sight: &mut Sight, done: &mut Done) {
-    let steps = view.image().steps();
+fn note<W: Worker>(view: &W::View, sight: &mut Sight, done: &mut Done) {
+    let steps = W::steps(view);
     done.count = done.count.saturating_add(1);
-    if !is_whole(view, sight) {
+    if !is_whole::<W>(view, sight) {
         done.torn = done.torn.saturating_add(1);
     }
     if steps < done.steps {
@@ -79,27 +63,28 @@ fn note(view: &View, sight: &mut Sight, done: &mut Done) {
 }
 
 /// Looks at a snapshot, and says whether there was one.
-pub fn look(viewer: Viewer, sight: &mut Sight, done: &mut Done) -> (Viewer, bool) {
-    let view = match viewer.enter() {
+pub fn look<W: Worker>(viewer: W::Viewer, sight: &mut Sight, done: &mut Done) -> (W::Viewer, bool) {
+    let view = match W::enter(viewer) {
         Ok(view) => view,
         Err(viewer) => return (viewer, false),
     };
-    note(&view, sight, done);
-    (view.leave(), true)
+    note::<W>(&view, sight, done);
+    (W::leave(view), true)
 }
 
 /// Enters a snapshot and leaves it, so many times.
-pub fn enter_often(viewer: Viewer, times: u64) -> Done {
-    let mut viewer = viewer;
+pub fn enter_often<W: Worker>(worker: W, times: u64) -> Done {
+    let mut viewer = worker.into_viewer();
     let mut done = Done::nothing(0);
     for _ in 0..times {
-        viewer = match viewer.enter() {
+        viewer = match W::enter(viewer) {
             Ok(view) => {
                 done.count = done.count.saturating_add(1);
-                view.leave()
+                W::leave(view)
             }
             Err(viewer) => viewer,
         };
     }
+    W::close(viewer);
     done
 }

@@ -4,11 +4,12 @@ ghost use Rattle.live_desk.specs.Opening.{AreParts};
 
 use crate::desk::asking::{Ran, Task};
 use crate::desk::dealing::{Calls, Load};
+use crate::desk::measured::Desk;
 use crate::desk::working::{Job, Shared, make_calls, work_beside};
 use crate::moments::nanoseconds;
 use crate::tapes::START;
 use list_types::NoMemory;
-use live_desk::{DeskWorker, Naming, Parts, Pass, open_desk, open_parts};
+use live_desk::{LiveDesk, Naming, Parts, open_desk, open_parts};
 use pub_snap::Publisher;
 use std::alloc::Global;
 use std::marker::Brand;
@@ -20,12 +21,15 @@ use std::time::Clock;
 /// How many workers run at once at most.
 const MOST_WORKERS: usize = 16;
 
+/// A desk with its passes and its workers.
+type Opened<D, P, W> = (D, (Vec<P>, Vec<W>));
+
 // A job for each worker that has a list of packets.
-fn jobs_of<J: Naming>(
+fn jobs_of<W: Drop>(
     alloc: Global,
-    workers: Vec<DeskWorker<J>>,
+    workers: Vec<W>,
     mut loads: Vec<Vec<Load>>,
-) -> Result<Vec<Job<J>>, NoMemory> {
+) -> Result<Vec<Job<W>>, NoMemory> {
     let mut jobs = Vec::new(alloc);
     for worker in workers {
         if let Some(loads) = loads.pop() {
@@ -36,11 +40,11 @@ fn jobs_of<J: Naming>(
 }
 
 // The first calls are made, and then the workers work beside the writer.
-fn run_calls<J: Naming + Send + Sync, T: Threads + Wait + Clock + Sync>(
+fn run_calls<D: Desk + Send + Sync, T: Threads + Wait + Clock + Sync>(
     rt: &T,
-    shared: &Shared<J, &T>,
-    pass: &mut Pass<J>,
-    jobs: Vec<Job<J>>,
+    shared: &Shared<D, &T>,
+    pass: &mut D::Pass,
+    jobs: Vec<Job<D::Worker>>,
     calls: &Calls,
 ) -> Result<Ran, NoMemory> {
     let first = make_calls(shared, pass, calls.first.as_slice(), 1);
@@ -57,11 +61,11 @@ fn run_calls<J: Naming + Send + Sync, T: Threads + Wait + Clock + Sync>(
 }
 
 // The calls and the work of these workers, with one pass of those of the desk.
-fn run_workers<J: Naming + Send + Sync, T: Threads + Wait + Clock + Sync>(
+fn run_workers<D: Desk + Send + Sync, T: Threads + Wait + Clock + Sync>(
     rt: &T,
-    shared: &Shared<J, &T>,
-    mut passes: Vec<Pass<J>>,
-    jobs: Vec<Job<J>>,
+    shared: &Shared<D, &T>,
+    mut passes: Vec<D::Pass>,
+    jobs: Vec<Job<D::Worker>>,
     calls: &Calls,
 ) -> Result<Ran, NoMemory> {
     let pass = passes.pop();
@@ -77,6 +81,35 @@ fn run_workers<J: Naming + Send + Sync, T: Threads + Wait + Clock + Sync>(
             Err(NoMemory)
         }
     }
+}
+
+// The plan at a desk that was opened.
+fn run_at<D: Desk + Send + Sync + Drop, T: Threads + Wait + Clock + Sync>(
+    rt: &T,
+    alloc: Global,
+    opened: Opened<D, D::Pass, D::Worker>,
+    calls: &Calls,
+    loads: Vec<Vec<Load>>,
+    task: Task,
+) -> Result<Ran, NoMemory> {
+    let (desk, (passes, workers)) = opened;
+    let shared = Shared {
+        rt,
+        alloc,
+        desk,
+        task,
+        is_written: AtomicBool::new(false),
+        is_done: AtomicBool::new(false),
+    };
+    let ran = match jobs_of(alloc, workers, loads) {
+        Ok(jobs) => run_workers(rt, &shared, passes, jobs, calls),
+        Err(NoMemory) => {
+            drop(passes);
+            Err(NoMemory)
+        }
+    };
+    drop(shared);
+    ran
 }
 
 // The plan at a desk with these names.
@@ -95,28 +128,11 @@ fn run<J: Naming + Send + Sync, T: Threads + Wait + Clock + Sync>(
     requires bank { parts.bank.id ≡ J.bank }
     requires table { parts.table ≡ J.table }
 {
-    let Ok((desk, (passes, workers))) = open_desk::<J, &T>(rt, alloc, START, publisher, parts)
-    else {
+    let Ok(opened) = open_desk::<J, &T>(rt, alloc, START, publisher, parts) else {
         drop(loads);
         return Err(NoMemory);
     };
-    let shared = Shared {
-        rt,
-        alloc,
-        desk,
-        task,
-        is_written: AtomicBool::new(false),
-        is_done: AtomicBool::new(false),
-    };
-    let ran = match jobs_of(alloc, workers, loads) {
-        Ok(jobs) => run_workers(rt, &shared, passes, jobs, calls),
-        Err(NoMemory) => {
-            drop(passes);
-            Err(NoMemory)
-        }
-    };
-    drop(shared);
-    ran
+    run_at::<LiveDesk<J, &T>, T>(rt, alloc, opened, calls, loads, task)
 }
 
 /// Opens a desk with a worker for each list of packets, at most 16, and runs the calls and the packets there.

@@ -2,26 +2,20 @@
 use crate::desk::asking::{Done, Made, Task, Work};
 use crate::desk::dealing::Load;
 use crate::desk::looking::{Sight, enter_often, look};
+use crate::desk::measured::{Desk, Worker};
 use list_types::NoMemory;
-use live_desk::{DeskWorker, LiveDesk, Naming, Pass};
 use p4_types::calls::Call;
-use p4_types::code::Code;
-use p4_types::records::Fate;
-use pub_snap::Viewer;
 use std::alloc::Global;
 use std::sync::Wait;
 use std::sync::atomic::{AtomicBool, Ordering};
 use std::thread::{Threads, join, map_vec, yield_now};
 
-/// The longest packet.
-const MOST_BYTES: usize = 9_216;
-
 /// What all threads share: the desk, what is asked for, whether the writer has made its calls, and whether the workers are done.
 #[derive(Drop)]
-pub struct Shared<J: Naming, R: Wait + Drop> {
+pub struct Shared<D, R> {
     pub rt: R,
     pub alloc: Global,
-    pub desk: LiveDesk<J, R>,
+    pub desk: D,
     pub task: Task,
     pub is_written: AtomicBool,
     pub is_done: AtomicBool,
@@ -29,65 +23,43 @@ pub struct Shared<J: Naming, R: Wait + Drop> {
 
 /// A worker with its packets.
 #[derive(Drop)]
-pub struct Job<J: Naming> {
-    pub worker: DeskWorker<J>,
+pub struct Job<W> {
+    pub worker: W,
     pub loads: Vec<Load>,
 }
 
 // Runs the packets once, and adds how many were sent.
-fn carry_once<J: Naming, R: Wait + Drop>(
-    desk: &LiveDesk<J, R>,
-    worker: &mut DeskWorker<J>,
-    sight: &mut Sight,
-    done: &mut Done,
-) {
+fn carry_once<D: Desk>(desk: &D, worker: &mut D::Worker, sight: &mut Sight, done: &mut Done) {
     let Sight { loads, verdict, .. } = sight;
     for load in loads.as_slice() {
-        let packet = load.packet.as_slice();
-        let packet = &packet[..packet.len().min(MOST_BYTES)];
-        desk.run_in_burst(worker, load.port, packet, verdict);
-        if let Fate::Sent = verdict.fate() {
+        if desk.carry(worker, load, verdict) {
             done.count = done.count.saturating_add(1);
         }
     }
 }
 
 // Runs the packets as often as it is asked for.
-fn carry<J: Naming, R: Wait + Drop>(
-    shared: &Shared<J, R>,
-    mut worker: DeskWorker<J>,
-    mut sight: Sight,
-) -> Done {
+fn carry<D: Desk, R>(shared: &Shared<D, R>, mut worker: D::Worker, mut sight: Sight) -> Done {
     let mut done = Done::nothing(0);
     for _ in 0..shared.task.times {
         carry_once(&shared.desk, &mut worker, &mut sight, &mut done);
     }
-    worker.rest();
+    worker.end_burst();
     drop(worker);
     drop(sight);
     done
 }
 
-// What sees the snapshots of a worker.
-fn viewer_of<J: Naming>(worker: DeskWorker<J>) -> Viewer {
-    let (viewer, seat) = worker.finish();
-    drop(seat);
-    viewer
-}
-
 // Looks at snapshots until the writer has made its calls, the last time behind them.
-fn look_on<J: Naming, R: Wait + Drop>(
-    shared: &Shared<J, R>,
-    mut viewer: Viewer,
-    mut sight: Sight,
-) -> Done {
+fn look_on<D, R: Wait, W: Worker>(shared: &Shared<D, R>, worker: W, mut sight: Sight) -> Done {
+    let mut viewer = worker.into_viewer();
     let mut done = Done::nothing(0);
     for _ in shared.rt.forever() {
         let is_last = shared.is_written.load(Ordering::SeqCst);
-        let (left, is_entered) = look(viewer, &mut sight, &mut done);
+        let (left, is_entered) = look::<W>(viewer, &mut sight, &mut done);
         viewer = left;
         if is_last && is_entered {
-            drop(viewer);
+            W::close(viewer);
             drop(sight);
             return done;
         }
@@ -97,7 +69,7 @@ fn look_on<J: Naming, R: Wait + Drop>(
 }
 
 // A worker's work, with memory of its own.
-fn work<J: Naming, R: Wait + Drop>(shared: &Shared<J, R>, job: Job<J>) -> Result<Done, NoMemory> {
+fn work<D: Desk, R: Wait>(shared: &Shared<D, R>, job: Job<D::Worker>) -> Result<Done, NoMemory> {
     let Job { worker, loads } = job;
     let Ok(sight) = Sight::open(shared.alloc, loads) else {
         drop(worker);
@@ -105,10 +77,10 @@ fn work<J: Naming, R: Wait + Drop>(shared: &Shared<J, R>, job: Job<J>) -> Result
     };
     Ok(match shared.task.work {
         Work::Carry => carry(shared, worker, sight),
-        Work::Look => look_on(shared, viewer_of(worker), sight),
+        Work::Look => look_on(shared, worker, sight),
         Work::Enter => {
             drop(sight);
-            enter_often(viewer_of(worker), shared.task.times)
+            enter_often(worker, shared.task.times)
         }
     })
 }
@@ -126,23 +98,23 @@ fn all_of(each: &[Result<Done, NoMemory>]) -> Result<Done, NoMemory> {
 }
 
 // The work of all workers, each on a thread of its own.
-fn work_each<J: Naming + Send + Sync, R: Threads + Wait + Drop + Send + Sync>(
-    shared: &Shared<J, R>,
-    jobs: Vec<Job<J>>,
+fn work_each<D: Desk + Send + Sync, R: Threads + Wait + Send + Sync>(
+    shared: &Shared<D, R>,
+    jobs: Vec<Job<D::Worker>>,
 ) -> Result<Done, NoMemory> {
     let each = map_vec(
         &shared.rt,
         jobs,
-        &|job: Job<J>| -> Result<Done, NoMemory> { work(shared, job) },
+        &|job: Job<D::Worker>| -> Result<Done, NoMemory> { work(shared, job) },
     );
     shared.is_done.store(true, Ordering::SeqCst);
     all_of(each?.as_slice())
 }
 
 /// Makes calls one after another, so often, unless the workers are done before.
-pub fn make_calls<J: Naming, R: Wait + Drop>(
-    shared: &Shared<J, R>,
-    pass: &mut Pass<J>,
+pub fn make_calls<D: Desk, R>(
+    shared: &Shared<D, R>,
+    pass: &mut D::Pass,
     calls: &[Call],
     turns: u64,
 ) -> Made {
@@ -152,22 +124,14 @@ pub fn make_calls<J: Naming, R: Wait + Drop>(
             if shared.is_done.load(Ordering::SeqCst) {
                 return made;
             }
-            let reply = shared.desk.ask(pass, call);
-            if let Code::Ok = reply.code {
-                made.ok = made.ok.saturating_add(1);
-            }
-            made.steps = reply.steps;
+            made = made.and_then(shared.desk.make(pass, call));
         }
     }
     made
 }
 
 // Makes the writer's calls.
-fn write<J: Naming, R: Wait + Drop>(
-    shared: &Shared<J, R>,
-    pass: &mut Pass<J>,
-    calls: &[Call],
-) -> Made {
+fn write<D: Desk, R>(shared: &Shared<D, R>, pass: &mut D::Pass, calls: &[Call]) -> Made {
     let turns = if calls.is_empty() {
         0
     } else {
@@ -179,10 +143,10 @@ fn write<J: Naming, R: Wait + Drop>(
 }
 
 /// The work of all workers beside the writer.
-pub fn work_beside<J: Naming + Send + Sync, R: Threads + Wait + Drop + Send + Sync>(
-    shared: &Shared<J, R>,
-    pass: &mut Pass<J>,
-    jobs: Vec<Job<J>>,
+pub fn work_beside<D: Desk + Send + Sync, R: Threads + Wait + Send + Sync>(
+    shared: &Shared<D, R>,
+    pass: &mut D::Pass,
+    jobs: Vec<Job<D::Worker>>,
     calls: &[Call],
 ) -> Result<(Done, Made), NoMemory> {
     // where no thread can be made, the writer goes first: workers may wait for its calls

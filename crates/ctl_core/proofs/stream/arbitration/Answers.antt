@@ -3,8 +3,8 @@ use Rattle.p4_types.specs.declared.code.Code.TheVariants as codes
 use Rattle.role_arbiter.specs.Arbitration.{cause}
 use Rattle.switch_spec.specs.Answer.{Answer}
 use Rattle.switch_spec.specs.Notices.{standing_notices}
-use Rattle.ctl_core.specs.declared.prepared.Prepared.{Prepared}
-use Rattle.ctl_core.specs.Prepared.{IsPrepared}
+use Rattle.call_outcomes.specs.declared.prepared.Prepared.{Prepared}
+use Rattle.call_outcomes.specs.Prepared.{IsPrepared}
 use Rattle.ctl_core.proofs.Arbitrating.{not_refused, told, handed}
 use Rattle.ctl_core.proofs.stream.arbitration.Goals as goal
 

@@ -1,4 +1,4 @@
-use Rattle.std.proofs.Common.{◌-◌, arith}
+use Rattle.std.proofs.Common.{arith}
 use Rattle.speed.proofs.Below.{below_plane, former_plane}
 use Rattle.speed.proofs.routes.put.Goals as goal
 

@@ -1,0 +1,159 @@
+//! Desks as the steps of a row use them. A function is checked with all that can be reached from the types that it names, so what
+//! a live desk consists of is named here, and where one is opened, and nowhere else.
+ghost use Rattle.std.specs.Prelude.{◌≤◌, length};
+
+use crate::telling::LastRun;
+use desk_service::ServedDesk;
+use live_desk::{ClosedDesk, DeskWorker, LiveDesk, Naming, Pass};
+use mail_room::Next;
+use p4_types::calls::{Call, Reply};
+use p4rt_service::Desk;
+use pkt_worker::Verdict;
+use ports_loop::{PortsEnd, serve_ports};
+use std::alloc::Global;
+use std::sync::Wait;
+use sw_edge::{Clock, Ports, Stop};
+
+/// What makes the calls of a lane.
+pub trait RowPass: Drop {
+    /// How many steps it knows.
+    fn known(&self) -> u64;
+}
+
+/// What runs packets.
+pub trait RowWorker: Drop {
+    /// After what its last packet was run.
+    fn last_run(&self) -> LastRun;
+}
+
+/// A desk at which nothing is asked any more.
+pub trait RowEnd<P>: Drop {
+    /// Compares a pass with it.
+    fn compare<W: Wait>(&mut self, rt: &W, pass: &mut P);
+
+    /// How many steps there were.
+    fn steps(&self) -> u64;
+}
+
+/// A desk at which the steps of a row are done. It is closed in the end, and never let go.
+pub trait RowDesk {
+    type Pass: RowPass;
+
+    type Worker: RowWorker;
+
+    type Closed: RowEnd<Self::Pass>;
+
+    /// Makes a call of a pass, as a connection does.
+    fn call(&self, alloc: Global, pass: &mut Self::Pass, call: &Call) -> Reply;
+
+    /// What a pass's lane is given at a moment, as a connection is.
+    fn give(&self, alloc: Global, pass: &mut Self::Pass, now: u64) -> Option<Next>;
+
+    /// The second of two of these passes learns what the first tells, if there are such passes.
+    fn teach(&self, passes: &mut [Self::Pass], from: usize, to: usize) -> Option<()>;
+
+    /// Runs a packet that comes at no ports.
+    fn run_packet(&self, worker: &mut Self::Worker, port: u16, packet: &[u8], verdict: &mut Verdict)
+        requires { length packet.now ≤ 9216 };
+
+    /// Hands on what a packet gives to controllers, packets to this lane.
+    fn hand_on(&self, receiver: Option<u16>, verdict: &Verdict, now: u64);
+
+    /// Carries packets from ports to their end.
+    fn carry<P: Ports, S: Stop, K: Clock, W: Wait>(
+        &self,
+        rt: &W,
+        alloc: Global,
+        ports: &mut P,
+        stop: &mut S,
+        worker: &mut Self::Worker,
+        clock: &mut K,
+    ) -> PortsEnd;
+
+    /// Closes the desk.
+    fn close(self) -> Self::Closed;
+}
+
+impl<J: Naming> RowPass for Pass<J> {
+    fn known(&self) -> u64 {
+        self.told().len()
+    }
+}
+
+impl<J: Naming> RowWorker for DeskWorker<J> {
+    fn last_run(&self) -> LastRun {
+        LastRun {
+            steps: self.steps(),
+            primary: self.receiver(),
+        }
+    }
+}
+
+impl<J: Naming> RowEnd<Pass<J>> for ClosedDesk<J> {
+    fn compare<W: Wait>(&mut self, rt: &W, pass: &mut Pass<J>) {
+        self.agree(rt, pass);
+    }
+
+    fn steps(&self) -> u64 {
+        self.told().len()
+    }
+}
+
+impl<J: Naming, R: Wait + Drop> RowDesk for LiveDesk<J, R> {
+    type Pass = Pass<J>;
+
+    type Worker = DeskWorker<J>;
+
+    type Closed = ClosedDesk<J>;
+
+    fn call(&self, alloc: Global, pass: &mut Pass<J>, call: &Call) -> Reply {
+        ServedDesk::new(self).ask(alloc, pass, call)
+    }
+
+    fn give(&self, alloc: Global, pass: &mut Pass<J>, now: u64) -> Option<Next> {
+        ServedDesk::new(self).next(alloc, pass, now)
+    }
+
+    fn teach(&self, passes: &mut [Pass<J>], from: usize, to: usize) -> Option<()> {
+        let news = self.tell(passes.get(from)?);
+        let Some(pass) = passes.get_mut(to) else {
+            drop(news);
+            return None;
+        };
+        self.learn(pass, &news);
+        drop(news);
+        Some(())
+    }
+
+    fn run_packet(
+        &self,
+        worker: &mut DeskWorker<J>,
+        port: u16,
+        packet: &[u8],
+        verdict: &mut Verdict,
+    ) {
+        self.run(worker, port, packet, verdict);
+    }
+
+    fn hand_on(&self, receiver: Option<u16>, verdict: &Verdict, now: u64) {
+        self.deliver(receiver, verdict, now);
+    }
+
+    // It promises nothing, so that the rows do not carry what `serve_ports` does.
+    #[tactic(none)]
+    fn carry<P: Ports, S: Stop, K: Clock, W: Wait>(
+        &self,
+        rt: &W,
+        alloc: Global,
+        ports: &mut P,
+        stop: &mut S,
+        worker: &mut DeskWorker<J>,
+        clock: &mut K,
+    ) -> PortsEnd {
+        serve_ports(rt, alloc, ports, stop, self, worker, clock)
+    }
+
+    fn close(self) -> ClosedDesk<J> {
+        self.finish()
+    }
+}
