@@ -54,14 +54,14 @@ fn both(
         Ok(left) => left,
         Err(error) => {
             drop(right);
-            return Err(error);
+            return Err(error.into());
         }
     };
     match Box::new(alloc, right) {
         Ok(right) => Ok((left, right)),
         Err(error) => {
             drop(left);
-            Err(error)
+            Err(error.into())
         }
     }
 }
