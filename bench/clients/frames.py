@@ -1,4 +1,5 @@
 """HTTP/2 frames (RFC 9113) over a socket, for clients that do with them what no library would."""
+import contextlib
 import socket
 import struct
 import time
@@ -143,7 +144,9 @@ class Connection:
         if payload is None:
             return None
         if kind in (SETTINGS, PING) and not flags & ACK:
-            self.send(frame(kind, ACK, 0, payload if kind == PING else b""))
+            # a peer that has closed sees no acknowledgement; what it sent before is still to be read
+            with contextlib.suppress(ConnectionError):
+                self.send(frame(kind, ACK, 0, payload if kind == PING else b""))
         return kind, flags, struct.unpack(">I", head[5:9])[0] & 0x7FFF_FFFF, payload
 
     def _take(self, count, until):
