@@ -1,6 +1,6 @@
 //! What a Write answers, from what its updates do.
 ghost use Rattle.std.specs.Prelude.{◌≡◌, ◌∷◌, [], ◌++◌, IfOk, OnOk, map, if◌then◌else◌};
-ghost use Rattle.std.specs.List.{list_any, filter_map};
+ghost use Rattle.std.specs.List.{filter_map};
 ghost use Rattle.std.specs.Result.{result_ok};
 ghost use Rattle.p4_types.specs.declared.events.Event.TheVariants as events;
 ghost use Rattle.switch_spec.specs.Answer.{atomicity_of, is_atomic, has_failed, batch, continued, all_or_nothing};

@@ -1,6 +1,6 @@
 //! Pipelines are set and got.
-ghost use Rattle.std.specs.Prelude.{◌≡◌, ◌∷◌, [], false, is_some, IfOk};
-ghost use Rattle.std.specs.Option.{option_copied, option_map};
+ghost use Rattle.std.specs.Prelude.{◌≡◌, ◌∷◌, [], false, IfOk};
+ghost use Rattle.std.specs.Option.{option_map};
 ghost use Rattle.plane_spec.specs.Planes.{target, primary as primary_session};
 ghost use Rattle.switch_spec.specs.Answer.{set_reply, get_reply};
 ghost use Rattle.switch_spec.specs.Pipelines.{pipeline_action_of, unserved_action, action_refusal, refusal_by, set_refusal, makes_plane, lacks_slots, config_events, events_by, set_made, set_unless, set_result, response_type_of, shown_config, get_response_bytes, get_by, get_result};
@@ -16,7 +16,7 @@ use p4_types::code::Code;
 use p4_types::events::{Committed, Event, Origin};
 use p4_types::messages::{
     Cookie, ForwardingPipelineConfig, GetForwardingPipelineConfigRequest,
-    GetForwardingPipelineConfigResponse, SetForwardingPipelineConfigRequest, Uint128,
+    GetForwardingPipelineConfigResponse, SetForwardingPipelineConfigRequest,
 };
 use p4_types::shared::Shared;
 use p4v1_wire::write_message;

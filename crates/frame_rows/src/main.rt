@@ -2,8 +2,12 @@
 //! behind each.
 #![tactic(auto)]
 
+mod blocks;
+mod frames;
+mod kinds;
+
 use std::io;
 
 fn main(rt: HostRuntime) -> io::Result<()> {
-    row_lines::answer_lines(&rt, frame_answers::answer)
+    row_lines::answer_lines(&rt, kinds::answer)
 }

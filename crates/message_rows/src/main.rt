@@ -2,8 +2,14 @@
 //! break.
 #![tactic(auto)]
 
+mod calls;
+mod infos;
+mod kinds;
+mod sent;
+mod shown;
+
 use std::io;
 
 fn main(rt: HostRuntime) -> io::Result<()> {
-    row_lines::answer_lines(&rt, message_answers::answer)
+    row_lines::answer_lines(&rt, kinds::answer)
 }

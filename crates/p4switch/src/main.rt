@@ -4,5 +4,5 @@
 use std::process::ExitCode;
 
 fn main(rt: HostRuntime) -> ExitCode {
-    p4switch_entry::exit_of(&rt, rt)
+    p4switch_run::exit_of(&rt, rt)
 }

@@ -3,10 +3,12 @@
 
 mod check;
 pub mod laws;
+mod process;
 mod program;
 mod replay;
 mod status;
 mod tell;
 mod words;
 
-pub use program::{end_without_memory, run};
+pub use process::exit_of;
+pub use program::run;

@@ -57,7 +57,7 @@ fn status_of<T: Threads + Wait + Sync, S: Source, O: Sink, N: Net + Drop, K: Clo
 /// `--lockstep` the records of the tape run one after the other, and else each lane on a thread of its own; the lanes of a
 /// thread that cannot be started run on the caller's. `check` reads a configuration from `tape`, and writes `ok`, or `refused` with the first rule that it
 /// breaks. `serve` listens on the net, and serves controllers and packets until the net ends or fails: which calls a controller's bytes
-/// make and what it is sent is said by `link_loop::serve_link`, what becomes of packets by `ports_loop::serve_ports`. A status other
+/// make and what it is sent is said by `link_loop::serve_link`, what becomes of packets by `serve_run::serve_ports`. A status other
 /// than 0 and 8 has its line on `err`.
 pub fn run<T: Threads + Wait + Sync, S: Source, O: Sink, E: Sink, N: Net + Drop, K: Clock + Send>(
     rt: &T,
@@ -159,7 +159,7 @@ pub fn run<T: Threads + Wait + Sync, S: Source, O: Sink, E: Sink, N: Net + Drop,
 }
 
 /// Ends the program where there was no memory for its words.
-pub fn end_without_memory<E: Sink>(err: &mut E) -> u8
+pub(crate) fn end_without_memory<E: Sink>(err: &mut E) -> u8
     ensures status { result ≡ 3 }
     ensures told { SaysStatus result (lines (E.sent err.old) (E.sent err.new) (E.faults err.old) (E.faults err.new)) }
 {

@@ -1,6 +1,10 @@
+mod Bounded
 mod Crossing
 mod Jobs
 mod Lanes
 mod Lasts
 mod Reports
+mod Seats
+mod Sights
 mod Sums
+mod Turns

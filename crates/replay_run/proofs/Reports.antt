@@ -37,7 +37,7 @@ use Rattle.run_counts.proofs.Lines.{totals_are_counts}
 use Rattle.run_counts.specs.Totals.{AreWithin, in_words}
 use Rattle.run_lanes.proofs.Gathering.{all_shared, lanes_make_a_run}
 use Rattle.run_lanes.specs.Gathered.{AreGathered, HasCalled, HasCarried, HasRead, OfEach, all_shares, caller_share, shares_of, worker_share}
-use Rattle.run_reads.proofs.Bounded.{reads_are_bounded}
+use Rattle.replay_run.proofs.Bounded.{reads_are_bounded}
 use Rattle.run_spec.specs.Report.{IsRun, report_of}
 use Rattle.run_spec.specs.Tape.{IsRecord}
 use Rattle.snap_worker.specs.Laws.{added_by}

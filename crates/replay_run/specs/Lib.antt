@@ -1,3 +1,4 @@
 pub mod Opening
 pub mod Ends
 pub mod Running
+pub mod Laws

@@ -3,6 +3,7 @@
 
 mod counting;
 mod ending;
+pub mod laws;
 mod opening;
 mod order;
 mod parts;

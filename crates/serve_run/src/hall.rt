@@ -1,8 +1,8 @@
 //! Where the passes wait that serve no link.
 ghost use Rattle.std.specs.Prelude.{◌≡◌, length, IfOk};
 
+use crate::shared_desk::LanePass;
 use list_types::NoMemory;
-use live_desk::{Naming, Pass};
 use std::alloc::Global;
 use std::sync::{Condvar, Mutex, Wait};
 
@@ -11,13 +11,13 @@ const LANES: usize = 32;
 
 // A place for the pass of each lane.
 #[derive(Drop)]
-pub(crate) struct Places<J: Naming> {
-    places: Vec<Option<Pass<J>>>,
+pub(crate) struct Places<P> {
+    places: Vec<Option<P>>,
     ghost full: { length places.items ≡ 32 },
 }
 
 // Places where no pass is.
-fn empty_places<J: Naming>(alloc: Global) -> Result<Vec<Option<Pass<J>>>, NoMemory>
+fn empty_places<P: Drop>(alloc: Global) -> Result<Vec<Option<P>>, NoMemory>
     ensures { IfOk result (λ places. length places.items ≡ 32) }
 {
     let mut places = Vec::new(alloc);
@@ -27,9 +27,9 @@ fn empty_places<J: Naming>(alloc: Global) -> Result<Vec<Option<Pass<J>>>, NoMemo
     Ok(places)
 }
 
-impl<J: Naming> Places<J> {
+impl<P: LanePass> Places<P> {
     // The pass of the lowest lane whose place is not empty.
-    fn take(&mut self) -> Option<Pass<J>> {
+    fn take(&mut self) -> Option<P> {
         for place in self.places.iter_mut() {
             if let Some(pass) = place.take() {
                 return Some(pass);
@@ -39,22 +39,22 @@ impl<J: Naming> Places<J> {
     }
 
     // Puts a pass into the place of its lane.
-    fn put(&mut self, pass: Pass<J>) {
-        let lane = usize::from(pass.lane());
-        self.places[lane] = Some(pass);
+    fn put(&mut self, pass: P) {
+        let place = pass.place();
+        self.places[place] = Some(pass);
     }
 }
 
 /// The passes that serve no link.
 #[derive(Drop)]
-pub(crate) struct Hall<J: Naming> {
-    places: Mutex<Places<J>>,
+pub(crate) struct Hall<P> {
+    places: Mutex<Places<P>>,
     came: Condvar,
 }
 
-impl<J: Naming> Hall<J> {
+impl<P: LanePass> Hall<P> {
     /// With these passes.
-    pub(crate) fn open(alloc: Global, passes: Vec<Pass<J>>) -> Result<Hall<J>, NoMemory> {
+    pub(crate) fn open(alloc: Global, passes: Vec<P>) -> Result<Hall<P>, NoMemory> {
         let mut places = Places {
             places: empty_places(alloc)?,
         };
@@ -68,7 +68,7 @@ impl<J: Naming> Hall<J> {
     }
 
     /// Takes the pass of the lowest lane that serves no link. It waits until there is one.
-    pub(crate) fn take<W: Wait>(&self, rt: &W) -> Pass<J> {
+    pub(crate) fn take<W: Wait>(&self, rt: &W) -> P {
         let mut places = self.places.lock(rt);
         for _ in rt.forever() {
             if let Some(pass) = places.take() {
@@ -80,13 +80,13 @@ impl<J: Naming> Hall<J> {
     }
 
     /// Gives a pass back, for the next link.
-    pub(crate) fn give<W: Wait>(&self, rt: &W, pass: Pass<J>) {
+    pub(crate) fn give<W: Wait>(&self, rt: &W, pass: P) {
         self.places.lock(rt).put(pass);
         self.came.notify_one();
     }
 
     /// The passes, once no link is served any more.
-    pub(crate) fn into_passes(self) -> Vec<Option<Pass<J>>> {
+    pub(crate) fn into_passes(self) -> Vec<Option<P>> {
         let Hall { places, came: _ } = self;
         let Places { places } = places.into_inner();
         places

@@ -5,9 +5,18 @@ mod accepting;
 mod clock;
 mod ending;
 mod hall;
+pub mod laws;
+mod live;
 mod opening;
+mod ports;
+mod ports_end;
+mod served;
+mod shared_desk;
 mod sharing;
 mod threads;
 
 pub use ending::ServeEnd;
 pub use opening::{MOST_WORKERS, Serving, serve};
+pub use ports::serve_ports;
+pub use ports_end::PortsEnd;
+pub use served::ServedDesk;

@@ -6,6 +6,7 @@ ghost use Rattle.sw_edge.specs.Counts.{HasCause, StaysUnless};
 use crate::clock::LentClock;
 use crate::ending::ServeEnd;
 use crate::hall::Hall;
+use crate::shared_desk::SharedDesk;
 use crate::sharing::Shared;
 use crate::threads::serve_net;
 use core::mem::replace_with;
@@ -32,47 +33,28 @@ pub struct Serving {
     pub start: Start,
 }
 
-// Closes the desk, once no thread uses it any more: the published list has of each caller just what its calls made.
-fn close<J: Naming, R: Wait + Drop, W: Wait>(rt: &W, desk: LiveDesk<J, R>, hall: Hall<J>) {
-    let mut closed = desk.finish();
-    for place in hall.into_passes() {
-        if let Some(mut pass) = place {
-            closed.agree(rt, &mut pass);
-        }
-    }
-}
-
-// Serves under the names of one desk.
-fn serve_desk<
+// Serves at a desk with these passes and workers.
+fn serve_at<
     'a,
-    J: Naming + Send + Sync,
+    D: SharedDesk + Send + Sync + Drop,
     T: Threads + Wait + Sync,
     N: Net + Drop,
     K: Clock + Send,
 >(
     rt: &'a T,
     alloc: Global,
-    start: Start,
-    publisher: Publisher<&'a T>,
-    parts: Parts,
+    desk: D,
+    passes: Vec<D::Pass>,
+    workers: Vec<D::Worker>,
     net: N,
     clock: &'a mut K,
 ) -> (N, ServeEnd)
-    requires start { start ≡ J.start }
-    requires parts { AreParts start publisher parts }
-    requires list { publisher.told.list ≡ J.list }
-    requires bank { parts.bank.id ≡ J.bank }
-    requires table { parts.table ≡ J.table }
     ensures end { HasCause (N.ends net) (N.ends result.0) (result.1 ≡ ServeEnd.Ended) }
     ensures no_end { StaysUnless (N.ends net) (N.ends result.0) (result.1 ≡ ServeEnd.Ended) }
     ensures failed { HasCause (N.faults net) (N.faults result.0) (result.1 ≡ ServeEnd.Fault) }
     ensures no_fault { StaysUnless (N.faults net) (N.faults result.0) (result.1 ≡ ServeEnd.Fault) }
     ensures memory { result.1 ≡ ServeEnd.Memory → N.quiets result.0 ≡ N.quiets net }
 {
-    let Ok((desk, (passes, workers))) = open_desk::<J, &T>(rt, alloc, start, publisher, parts)
-    else {
-        return (net, ServeEnd::Memory);
-    };
     let Ok(hall) = Hall::open(alloc, passes) else {
         drop(desk);
         drop(workers);
@@ -95,8 +77,36 @@ fn serve_desk<
         clock: _,
         stop: _,
     } = shared;
-    close(rt, desk, hall);
+    desk.close(rt, hall.into_passes());
     (net, end)
+}
+
+// Serves under the names of one desk.
+fn serve_desk<J: Naming + Send + Sync, T: Threads + Wait + Sync, N: Net + Drop, K: Clock + Send>(
+    rt: &T,
+    alloc: Global,
+    start: Start,
+    publisher: Publisher<&T>,
+    parts: Parts,
+    net: N,
+    clock: &mut K,
+) -> (N, ServeEnd)
+    requires start { start ≡ J.start }
+    requires parts { AreParts start publisher parts }
+    requires list { publisher.told.list ≡ J.list }
+    requires bank { parts.bank.id ≡ J.bank }
+    requires table { parts.table ≡ J.table }
+    ensures end { HasCause (N.ends net) (N.ends result.0) (result.1 ≡ ServeEnd.Ended) }
+    ensures no_end { StaysUnless (N.ends net) (N.ends result.0) (result.1 ≡ ServeEnd.Ended) }
+    ensures failed { HasCause (N.faults net) (N.faults result.0) (result.1 ≡ ServeEnd.Fault) }
+    ensures no_fault { StaysUnless (N.faults net) (N.faults result.0) (result.1 ≡ ServeEnd.Fault) }
+    ensures memory { result.1 ≡ ServeEnd.Memory → N.quiets result.0 ≡ N.quiets net }
+{
+    let Ok((desk, (passes, workers))) = open_desk::<J, &T>(rt, alloc, start, publisher, parts)
+    else {
+        return (net, ServeEnd::Memory);
+    };
+    serve_at::<LiveDesk<J, &T>, T, N, K>(rt, alloc, desk, passes, workers, net, clock)
 }
 
 // Listens, opens the desk, and serves.

@@ -4,8 +4,8 @@ ghost use Rattle.sw_edge.specs.Counts.{HasCause, StaysUnless};
 
 use crate::accepting::{Came, next_link};
 use crate::ending::ServeEnd;
+use crate::shared_desk::SharedDesk;
 use crate::sharing::{Caller, Carrier, Shared, carry_packets, serve_caller};
-use live_desk::{DeskWorker, Naming};
 use std::sync::Wait;
 use std::thread::{Scope, Threads, scope, scope_env};
 use sw_edge::{Clock, Net, Opened};
@@ -15,12 +15,14 @@ use sw_edge::{Clock, Net, Opened};
 fn take_links<
     's,
     'e,
-    J: Naming + Send + Sync,
+    D: SharedDesk + Send + Sync,
     R: Threads + Wait + Drop + Send + Sync,
     N: Net + Drop,
     C: Clock + Drop + Send,
->(threads: &'s Scope<'s, &'e ()>, shared: &'e Shared<J, R, C>, net: &mut N) -> ServeEnd
+>(threads: &'s Scope<'s, &'e ()>, shared: &'e Shared<D, D::Pass, R, C>, net: &mut N) -> ServeEnd
 where
+    D::Pass: 'e,
+    D::Worker: 'e,
     N::Link: 'e,
     N::Ports: 'e,
     ensures end { HasCause (N.ends net.old) (N.ends net.new) (result ≡ ServeEnd.Ended) }
@@ -58,17 +60,19 @@ where
 fn take_links_beside<
     's,
     'e,
-    J: Naming + Send + Sync,
+    D: SharedDesk + Send + Sync,
     R: Threads + Wait + Drop + Send + Sync,
     N: Net + Drop,
     C: Clock + Drop + Send,
 >(
     threads: &'s Scope<'s, &'e ()>,
-    shared: &'e Shared<J, R, C>,
+    shared: &'e Shared<D, D::Pass, R, C>,
     net: &mut N,
-    workers: Vec<DeskWorker<J>>,
+    workers: Vec<D::Worker>,
 ) -> ServeEnd
 where
+    D::Pass: 'e,
+    D::Worker: 'e,
     N::Link: 'e,
     N::Ports: 'e,
     ensures end { HasCause (N.ends net.old) (N.ends net.new) (result ≡ ServeEnd.Ended) }
@@ -102,12 +106,14 @@ where
 /// Serves the links and ports of a net that listens, with these workers, until the net ends or fails and all threads have ended.
 pub(crate) fn serve_net<
     'e,
-    J: Naming + Send + Sync,
+    D: SharedDesk + Send + Sync,
     R: Threads + Wait + Drop + Send + Sync,
     N: Net + Drop,
     C: Clock + Drop + Send,
->(shared: &'e Shared<J, R, C>, net: N, workers: Vec<DeskWorker<J>>) -> (N, ServeEnd)
+>(shared: &'e Shared<D, D::Pass, R, C>, net: N, workers: Vec<D::Worker>) -> (N, ServeEnd)
 where
+    D::Pass: 'e,
+    D::Worker: 'e,
     N::Link: 'e,
     N::Ports: 'e,
     ensures end { HasCause (N.ends net) (N.ends result.0) (result.1 ≡ ServeEnd.Ended) }

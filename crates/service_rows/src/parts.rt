@@ -1,4 +1,5 @@
 //! What stands in a step.
+use grpc_streams::GrpcRefusal;
 use list_types::{ByteList, List};
 use p4_types::calls::{Notice, Reply};
 use p4_types::code::Code;
@@ -11,14 +12,30 @@ fn code_of(word: &str) -> Result<Code, NoAnswer> {
         0 => Ok(Code::Ok),
         2 => Ok(Code::Unknown),
         3 => Ok(Code::InvalidArgument),
+        5 => Ok(Code::NotFound),
+        8 => Ok(Code::ResourceExhausted),
         9 => Ok(Code::FailedPrecondition),
+        12 => Ok(Code::Unimplemented),
         14 => Ok(Code::Unavailable),
         _ => Err(NoAnswer),
     }
 }
 
+/// A refusal by its number: a code, or 415.
+pub fn refusal_of(word: &str) -> Result<GrpcRefusal, NoAnswer> {
+    if word == "415" {
+        return Ok(GrpcRefusal::NotGrpc);
+    }
+    Ok(GrpcRefusal::Status(code_of(word)?))
+}
+
+/// The number of a stream.
+pub fn stream_of(word: &str) -> Result<u32, NoAnswer> {
+    Ok(word.parse::<u32>()?)
+}
+
 /// Two words with a colon between them.
-fn pair_of(word: &str) -> Result<(&str, &str), NoAnswer> {
+pub fn pair_of(word: &str) -> Result<(&str, &str), NoAnswer> {
     word.split_once(':').ok_or(NoAnswer)
 }
 
@@ -67,11 +84,11 @@ fn notices_of(alloc: Global, word: &str) -> Result<List<Notice>, NoAnswer> {
     Ok(notices)
 }
 
-/// A reply: its code, its messages and its notices.
+/// A reply: its code, its messages and, behind these, the notices that it has.
 pub fn reply_of(alloc: Global, word: &str) -> Result<Reply, NoAnswer> {
     let (code, rest) = pair_of(word)?;
     let code = code_of(code)?;
-    let (messages, notices) = pair_of(rest)?;
+    let (messages, notices) = rest.split_once(':').unwrap_or((rest, "-"));
     let messages = messages_of(alloc, messages)?;
     let notices = notices_of(alloc, notices)?;
     Ok(Reply {

@@ -98,15 +98,7 @@ fn step(
 }
 
 /// The calls and the bytes of a row.
-pub fn answer(
-    alloc: Global,
-    _kind: &str,
-    asked: &[&str],
-    out: &mut String,
-) -> Result<(), NoAnswer> {
-    let [steps] = asked else {
-        return Err(NoAnswer);
-    };
+pub fn answer(alloc: Global, steps: &str, out: &mut String) -> Result<(), NoAnswer> {
     let mut pass = RowPass {
         replies: VecDeque::new(alloc),
         told: String::new(alloc),

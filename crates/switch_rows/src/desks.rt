@@ -3,13 +3,12 @@
 ghost use Rattle.std.specs.Prelude.{◌≤◌, length};
 
 use crate::telling::LastRun;
-use desk_service::ServedDesk;
 use live_desk::{ClosedDesk, DeskWorker, LiveDesk, Naming, Pass};
 use mail_room::Next;
 use p4_types::calls::{Call, Reply};
 use p4rt_service::Desk;
 use pkt_worker::Verdict;
-use ports_loop::{PortsEnd, serve_ports};
+use serve_run::{PortsEnd, ServedDesk, serve_ports};
 use std::alloc::Global;
 use std::sync::Wait;
 use sw_edge::{Clock, Ports, Stop};

@@ -1,5 +1,0 @@
-use Rattle.std.proofs.Common.{length}
-use Rattle.leaf_answers.proofs.wire.messages.Given as goal
-
-abbrev pub decreases-messages : goal.decreases-messages
-decreases-messages l = length l.left

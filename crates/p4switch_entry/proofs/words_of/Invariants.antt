@@ -1,8 +1,0 @@
-use Rattle.std.proofs.Common.{◌≡◌, ◌++◌, drop}
-use Rattle.std.specs.Vec.Iter.{into_iter_items}
-use Rattle.p4switch_entry.proofs.words_of.Given as goal
-
-abbrev pub invariant-loop-word : goal.invariant-loop-word
-invariant-loop-word l =
-    (l.words.items ≡ l.yielded)
-    × (l.yielded ++ into_iter_items l.word-iterator ≡ drop 1 (into_iter_items l.fn.args))

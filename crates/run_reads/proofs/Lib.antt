@@ -1,4 +1,0 @@
-pub mod Turns
-pub mod Sights
-pub mod Seats
-pub mod Bounded
