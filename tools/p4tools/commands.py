@@ -6,7 +6,7 @@ import sys
 
 from google.protobuf.message import DecodeError
 
-from p4tools import difference, packets, report, scenario, spell, tape, told
+from p4tools import difference, explaining, packets, report, scenario, spell, tape, told
 from p4tools.messages import Config, PacketIn, parse
 from p4tools.names import Names, read_info
 from p4tools.trouble import Progress, Trouble
@@ -21,7 +21,8 @@ def p4tape(words):
 
 
 def p4config(words):
-    """Runs bin/p4config and gives its exit status, 0 or 2."""
+    """Runs bin/p4config and gives its exit status: 0, for `--explain` 1 where the config is refused, 2 for what
+    is wrong with the words or the files."""
     return _run("p4config", _p4config_words(), words)
 
 
@@ -74,8 +75,11 @@ def _p4config_words():
     parser = argparse.ArgumentParser(
         prog="p4config", description="Writes the ForwardingPipelineConfig that `p4switch check` reads.")
     parser.add_argument("info", metavar="P4INFO", help="in text or wire form, as the P4 compiler writes it")
-    parser.add_argument("json", metavar="JSON", help="the device configuration, as the P4 compiler writes it for BMv2")
+    parser.add_argument("json", metavar="JSON", nargs="?", help="the device configuration, as the P4 compiler writes it "
+                        "for BMv2")
     parser.add_argument("--cookie", type=int, default=0, help="the config's cookie (0 where none is given)")
+    parser.add_argument("--explain", action="store_true", help="says whether the switch takes it, and if not, by which "
+                        "rule, where, and what to write instead; exit status 1 where it does not")
     parser.set_defaults(run=_config)
     return parser
 
@@ -217,10 +221,14 @@ def _diff(given):
 
 
 def _config(given):
-    info, note = read_info(_bytes_of(given.info), given.info)
+    data = _bytes_of(given.info)
+    explaining.need_info(given.info, data, given.json)
+    info, note = read_info(data, given.info)
     if note:
         print(f"p4config: note: {note}", file=sys.stderr)
     device = _bytes_of(given.json)
+    if given.explain:
+        return explaining.explain(info, device)
     try:
         json.loads(device)
     except ValueError as error:

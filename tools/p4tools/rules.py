@@ -72,3 +72,54 @@ def of_update(code, number):
     if number == 10:
         return "it is there already" if code == 6 else "it is not there"
     return UPDATE.get(number, "")
+
+
+# What to do about a refusal, a sentence each.
+TO_DO_UPDATE = {
+    1: "begin the line with insert, modify or delete, and name an entity",
+    2: "leave it out: meters, counters and idle timeouts are not written here, nor are members watched",
+    3: "`program ids` lists what the program has",
+    4: "name it among the ids of the role (`arbitrate election=N role=N ids=NAME,..`), or write as a role without a list",
+    5: "the program fixes it, so only another program changes it; a default action is changed by modify alone",
+    6: "give each exact field once, and no field of another kind; `program` lists the keys",
+    7: "write a value that fits the width; `program` lists the widths",
+    8: "clear the bits behind the prefix or outside of the mask; priority=N is for keys with a ternary, range or optional "
+       "field, and for these alone",
+    9: "`program` lists the actions of the table and what each takes",
+    11: "insert what it names first, and before a delete take it out of what names it",
+    12: "delete what is not needed; `program` says how much a table has room for, and `serve --rows` how many rows there are"}
+TO_DO_NAMED = {
+    "action_profile_member": "take it out of the groups and entries that name it first; `groups` and `entries` list them",
+    "action_profile_group": "take it out of the entries that name it first; `entries` lists them"}
+TO_DO_MISSING = {
+    "action_profile_member": "a profile with one-shot sets has no members: delete the entries with such sets first",
+    "action_profile_group": "insert its members first; a profile with one-shot sets has no groups",
+    "action_profile_member_id": "insert the member first; `groups` lists those that are there",
+    "action_profile_group_id": "insert the group first; `groups` lists those that are there",
+    "action_profile_action_set": "a profile with members or groups has no one-shot sets: delete these first"}
+TO_DO_PRESENT = "change it by modify, or delete it first"
+TO_DO_ABSENT = "insert it; `entries` and `groups` list what is there"
+TO_DO_GONE = "`entries` and `groups` list what is there"
+TO_DO_PACKET_OUT = {
+    1: "arbitrate with a greater election id first (`--election`)",
+    2: "load a program first: config verify_and_commit P4INFO JSON",
+    3: "give each field of the header packet_out once; `program` lists them",
+    4: "with its header a packet has at most 9,216 bytes"}
+TO_DO_WHOLE = {
+    ("write", "PERMISSION_DENIED"): "arbitrate for the role with a greater election id (--election)",
+    ("write", "FAILED_PRECONDITION"): "load one: config verify_and_commit P4INFO JSON",
+    ("write", "RESOURCE_EXHAUSTED"): "split it: a batch has at most 4,096 updates",
+    ("read", "FAILED_PRECONDITION"): "load one: config verify_and_commit P4INFO JSON",
+    ("read", "NOT_FOUND"): "`program ids` lists what the program has; --device N names another device",
+    ("set", "PERMISSION_DENIED"): "arbitrate with a greater election id (--election), in a role without a list of ids",
+    ("set", "FAILED_PRECONDITION"): "save one first: config verify_and_save P4INFO JSON",
+    ("set", "INVALID_ARGUMENT"): "commit takes no files, and the other actions take P4INFO JSON",
+    ("set", "UNIMPLEMENTED"): "use verify_and_commit; entries are to be inserted again behind it",
+    ("set", "RESOURCE_EXHAUSTED"): "declare fewer or smaller counters, or start the switch anew",
+    ("stream", "FAILED_PRECONDITION"): "leave first, or open a connection of its own for the other role",
+    ("stream", "INVALID_ARGUMENT"): "use a greater election id (`--election`); a list of ids is for a role other than 0, "
+                                    "and has at most 128",
+    ("stream", "RESOURCE_EXHAUSTED"): "let another controller leave first; there are 32 sessions and 64 roles"}
+TO_DO_DEVICE = "name the device that the switch was started with, --device N; without that option it is 1"
+TO_DO_CONFIG = "`p4config --explain P4INFO JSON` says where, and what to write instead"
+TO_DO_MEMORY = "the switch found no memory; try it again, or ask for less at a time"

@@ -339,9 +339,10 @@ def lines_of(path, within=()):
             yield path, number, line
 
 
-def make(path, note, progress=None):
+def make(path, note, progress=None, names=None, took=None):
     """The records of a scenario's file, or the Trouble of its wrong lines, all of them told at once.
-    `note` takes what is told beside, a line each."""
+    `note` takes what is told beside, a line each. `names` are those of the first lines, and `took` is given
+    each line's file, number, records and names."""
     place = [path, 0]
 
     def read_file(name):
@@ -352,13 +353,16 @@ def make(path, note, progress=None):
             raise Trouble(f"{name} is not read: {error.strerror}; "
                           "a file is looked for from the scenario's own folder") from None
 
-    maker = Maker(read_file, note=lambda text: note(f"{place[0]}:{place[1]}: note: {text}"))
+    maker = Maker(read_file, names, note=lambda text: note(f"{place[0]}:{place[1]}: note: {text}"))
     records, wrong, lanes = [], [], tape.Lanes()
     for place[0], place[1], line in lines_of(path):
         try:
-            for record in maker.take(line):
+            made = maker.take(line)
+            for record in made:
                 lanes.take(record)
                 records.append(record)
+            if took:
+                took(place[0], place[1], made, maker.names)
         except Trouble as trouble:
             wrong.append(f"{place[0]}:{place[1]}: {trouble}")
             # (behind a config that is not read no name has a meaning)

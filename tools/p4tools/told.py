@@ -232,7 +232,14 @@ def tell_notice(data, beside):
     if kind == "digest":
         data = "; ".join(tell_data(it) for it in message.digest.data)
         return f"digest {beside.names.name('digest', message.digest.digest_id)}, list {message.digest.list_id}: {data}"
+    if kind == "idle_timeout_notification":
+        return "idle timeout: " + "; ".join(tell_idle(it, beside.names) for it in message.idle_timeout_notification.table_entry)
     return f"{kind} {data.hex()}"
+
+
+def tell_idle(entry, names):
+    """An entry that was not hit for its idle timeout."""
+    return f"{names.name('table', entry.table_id)} {key_of(entry, names)}"
 
 
 def _stream_error(error):
