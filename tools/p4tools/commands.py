@@ -6,9 +6,10 @@ import sys
 
 from google.protobuf.message import DecodeError
 
-from p4tools import difference, explaining, packets, report, scenario, spell, tape, told
+from p4tools import captures, difference, draw, explaining, packets, page, report, scenario, spell, stf, suite, tape, told
+from p4tools.files import bytes_of as _bytes_of, names_of as _names_of, tell as _tell
 from p4tools.messages import Config, PacketIn, parse
-from p4tools.names import Names, read_info
+from p4tools.names import read_info
 from p4tools.trouble import Progress, Trouble
 
 MADE, DIFFERENT, WRONG, INTERRUPTED = 0, 1, 2, 130
@@ -23,6 +24,8 @@ def p4tape(words):
 def p4config(words):
     """Runs bin/p4config and gives its exit status: 0, for `--explain` 1 where the config is refused, 2 for what
     is wrong with the words or the files."""
+    if words[:1] == ["draw"]:
+        return _run("p4config", draw.words(), words[1:])
     return _run("p4config", _p4config_words(), words)
 
 
@@ -48,7 +51,7 @@ def _run(script, parser, words):
 
 def _p4tape_words():
     parser = argparse.ArgumentParser(prog="p4tape", description="Tapes and reports of p4switch in words.")
-    commands = parser.add_subparsers(required=True, metavar="make | show | diff")
+    commands = parser.add_subparsers(required=True, metavar="make | show | diff | test | page | from-stf | from-pcap")
     make = commands.add_parser("make", help="a tape of a scenario, on standard output")
     make.add_argument("scenario", metavar="SCENARIO", help="a file with a line for each call and packet")
     make.set_defaults(run=_make)
@@ -68,6 +71,8 @@ def _p4tape_words():
                       help="the tape of both, or given twice that of A and that of B")
     diff.add_argument("--names", metavar="P4INFO", help="the names of the program at the start, as of --bridge")
     diff.set_defaults(run=_diff)
+    for added in (suite, page, stf, captures):
+        added.add_words(commands)
     return parser
 
 
@@ -84,35 +89,12 @@ def _p4config_words():
     return parser
 
 
-def _bytes_of(file):
-    try:
-        if file == "-":
-            return sys.stdin.buffer.read()
-        with open(file, "rb") as it:
-            return it.read()
-    except OSError as error:
-        raise Trouble(f"{file} is not read: {error.strerror}") from None
-
-
 def _write_bytes(script, data, what):
     """Writes bytes to standard output, which must not be a terminal."""
     if sys.stdout.isatty():
         raise Trouble(f"{what} is bytes: send it to a file, {script} .. > FILE")
     sys.stdout.buffer.write(data)
     sys.stdout.buffer.flush()
-
-
-def _tell(text):
-    print(f"p4tape: {text}", file=sys.stderr)
-
-
-def _names_of(file):
-    if not file:
-        return None
-    info, note = read_info(_bytes_of(file), file)
-    if note:
-        _tell(note)
-    return Names(info)
 
 
 def _make(given):

@@ -30,12 +30,41 @@ def summary(data):
     return f"{_scapy()[0](data).summary()}, {len(data)} bytes"
 
 
+@functools.lru_cache(4096)
+def decode(data):
+    """A packet by scapy's layers."""
+    return _scapy()[0](data)
+
+
+def layers():
+    """The classes of scapy's layers."""
+    from scapy.config import conf
+    _scapy()
+    return list(conf.layers)
+
+
 def of_pcap(data, file):
     """The packets of a pcap or pcapng file's bytes."""
+    return [packet for packet, _, _ in timed_of_pcap(data, file)]
+
+
+def timed_of_pcap(data, file):
+    """The packets of a pcap or pcapng file's bytes: of each its bytes, its time in nanoseconds, and whether the
+    capture cut it off."""
     try:
-        return [packet for packet, _ in _scapy()[1].RawPcapReader(io.BytesIO(data))]
+        reader = _scapy()[1].RawPcapReader(io.BytesIO(data))
+        unit = 1 if getattr(reader, "nano", False) else 1000
+        return [(packet, _time(told, unit), told.wirelen > len(packet)) for packet, told in reader]
     except Exception as error:  # scapy has many
         raise Trouble(f"{file} is no pcap file: {error}") from None
+
+
+def _time(told, unit):
+    if hasattr(told, "sec"):
+        return told.sec * 1_000_000_000 + told.usec * unit
+    if told.tshigh is None:
+        return 0
+    return ((told.tshigh << 32) + told.tslow) * 1_000_000_000 // int(told.tsresol)
 
 
 def write_pcap(folder, name, packets):

@@ -6,6 +6,7 @@ from google.protobuf.message import DecodeError
 
 from p4tools import hints, packets, tape
 from p4tools.entities import read_entity
+from p4tools.expect import Watch
 from p4tools.messages import (Config, GetRequest, ReadRequest, SetRequest, StreamRequest, Update,
                               WriteRequest, parse, set_number)
 from p4tools.names import Names, part, read_info
@@ -28,13 +29,14 @@ class Speaker:
 
 class Maker:
     """Takes the lines of a scenario and gives records. `read_file` gives the bytes of a file that a
-    line names."""
+    line names; `watch` has what the lines say must come."""
 
     def __init__(self, read_file, names=None, note=lambda text: None):
         self.read_file, self.note = read_file, note
         self.names = names or Names()
         self.speakers = {}
         self.block = None
+        self.watch = Watch()
 
     def take(self, line):
         """The records of one line; a block gives its call at its end."""
@@ -45,6 +47,9 @@ class Maker:
         if not words:
             return []
         verb = words[0]
+        if verb in OF_WATCH:
+            OF_WATCH[verb](self, lane, words[1:])
+            return []
         is_worker = verb in OF_WORKERS
         if lane and verb in (*VERBS, *UPDATES) and lane[0] != ("w" if is_worker else "c"):
             kind, letter = ("worker", "w") if is_worker else ("controller", "c")
@@ -53,7 +58,7 @@ class Maker:
         if verb in UPDATES:
             return [self._write(number, [self._update(words)], "continue_on_error")]
         if verb not in VERBS:
-            near = nearest(verb, [*VERBS, *UPDATES, "include"])
+            near = nearest(verb, [*VERBS, *UPDATES, *OF_WATCH, "include"], 1)
             raise Trouble(f"no line begins with {verb}" + f"; did you mean {' or '.join(near)}?" * bool(near))
         return VERBS[verb](self, number, words[1:])
 
@@ -181,6 +186,7 @@ class Maker:
         if len(words) != 1:
             raise Trouble("write names FILE, with a P4Info in text or wire form")
         self.names = Names(self._info(words[0]))
+        self.watch.named(self.names)
         return []
 
     def _info(self, file):
@@ -265,6 +271,25 @@ class Maker:
         payload = int(controller[1]).to_bytes(2, "big") + given["call"].to_bytes(4, "big")
         return [Record(tape.MEET, lane, payload)]
 
+    # What must come: it makes no record.
+
+    def expect(self, lane, words):
+        """`expect ..`: see expect.py"""
+        self.watch.expect(lane, words, self.names)
+
+    def strict(self, _, words):
+        """`strict [except=PORT,..]`: what leaves and is not expected is a failure"""
+        self.watch.strict(words)
+
+    def queued(self, _, words):
+        """`queued`: what leaves is looked for by ports, whichever packet it came of"""
+        nothing_more(words, "queued")
+        self.watch.queued()
+
+    def start(self, _, words):
+        """`start [bridge] [device=N] [cpu=N] [rows=N]`: how a test starts the switch"""
+        self.watch.begin(words)
+
     # Bytes as they are.
 
     def raw(self, lane, words):
@@ -285,6 +310,7 @@ VERBS = {"arbitrate": Maker.arbitrate, "as": Maker.speak, "batch": Maker.batch, 
          "packet": Maker.packet, "packet_out": Maker.packet_out, "pcap": Maker.pcap, "raw": Maker.raw,
          "read": Maker.read}
 OF_WORKERS = ("packet", "pcap", "meet")
+OF_WATCH = {"expect": Maker.expect, "strict": Maker.strict, "queued": Maker.queued, "start": Maker.start}
 
 
 def lane_of(words):
@@ -343,6 +369,11 @@ def make(path, note, progress=None, names=None, took=None):
     """The records of a scenario's file, or the Trouble of its wrong lines, all of them told at once.
     `note` takes what is told beside, a line each. `names` are those of the first lines, and `took` is given
     each line's file, number, records and names."""
+    return make_watched(path, note, progress, names, took)[0]
+
+
+def make_watched(path, note, progress=None, names=None, took=None):
+    """The records of a scenario's file, and the Watch that has what must come."""
     place = [path, 0]
 
     def read_file(name):
@@ -356,10 +387,12 @@ def make(path, note, progress=None, names=None, took=None):
     maker = Maker(read_file, names, note=lambda text: note(f"{place[0]}:{place[1]}: note: {text}"))
     records, wrong, lanes = [], [], tape.Lanes()
     for place[0], place[1], line in lines_of(path):
+        maker.watch.place = tuple(place)
         try:
             made = maker.take(line)
             for record in made:
                 lanes.take(record)
+                maker.watch.follow(record, tuple(place))
                 records.append(record)
             if took:
                 took(place[0], place[1], made, maker.names)
@@ -374,4 +407,4 @@ def make(path, note, progress=None, names=None, took=None):
         wrong.append(f"{path}: a {maker.block[0]} has no `end`")
     if wrong:
         raise Trouble("\n".join(wrong))
-    return records
+    return records, maker.watch
