@@ -55,12 +55,30 @@ bool Next(CompletionQueue& queue) {
   return done;
 }
 
+std::string FileOf(const std::string& name) {
+  std::ifstream file(name, std::ios::binary);
+  return {std::istreambuf_iterator<char>(file), std::istreambuf_iterator<char>()};
+}
+
+// Over TLS where CERTIFICATES is set, the folder of client.pem, client.key and of the certificate ca.pem of who made the
+// server's.
+std::shared_ptr<grpc::ChannelCredentials> Credentials() {
+  const char* folder = std::getenv("CERTIFICATES");
+  if (!folder) return grpc::InsecureChannelCredentials();
+  const std::string path = std::string(folder) + "/";
+  grpc::SslCredentialsOptions options;
+  options.pem_root_certs = FileOf(path + "ca.pem");
+  options.pem_private_key = FileOf(path + "client.key");
+  options.pem_cert_chain = FileOf(path + "client.pem");
+  return grpc::SslCredentials(options);
+}
+
 std::shared_ptr<grpc::Channel> ChannelTo(const std::string& port) {
   grpc::ChannelArguments arguments;
   arguments.SetInt(GRPC_ARG_MAX_METADATA_SIZE, 1 << 20);
   // A connection for each channel: by default those to one address share one.
   arguments.SetInt(GRPC_ARG_USE_LOCAL_SUBCHANNEL_POOL, 1);
-  return grpc::CreateCustomChannel("127.0.0.1:" + port, grpc::InsecureChannelCredentials(), arguments);
+  return grpc::CreateCustomChannel("127.0.0.1:" + port, Credentials(), arguments);
 }
 
 // One unary call under way, or done.
@@ -307,8 +325,7 @@ int main(int count, char** words) {
   program.set_device_id(kDevice);
   program.mutable_election_id()->set_low(kElection);
   program.set_action(p4::v1::SetForwardingPipelineConfigRequest::VERIFY_AND_COMMIT);
-  std::ifstream file(words[2], std::ios::binary);
-  std::string bytes{std::istreambuf_iterator<char>(file), std::istreambuf_iterator<char>()};
+  std::string bytes = FileOf(words[2]);
   Expect(!bytes.empty() && program.mutable_config()->ParseFromString(bytes), "the configuration is not read");
   Expect(Call(channel, "SetForwardingPipelineConfig", program, &set).ok(), "the program was refused");
   std::cout << "program: committed" << std::endl;

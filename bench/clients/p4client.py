@@ -111,11 +111,25 @@ def update_errors(status):
     return [p4.parse(p4.Error, detail.value) for detail in status.details]
 
 
+def channel_to(port, options=()):
+    """A channel to a port of 127.0.0.1: over TLS where CERTIFICATES is set, the folder of client.pem, client.key and of the
+    certificate ca.pem of who made the server's."""
+    folder = os.environ.get("CERTIFICATES")
+    place, options = f"127.0.0.1:{port}", [*OPTIONS, *options]
+    if not folder:
+        return grpc.insecure_channel(place, options=options)
+    files = []
+    for name in ("ca.pem", "client.key", "client.pem"):
+        with open(os.path.join(folder, name), "rb") as it:
+            files.append(it.read())
+    return grpc.secure_channel(place, grpc.ssl_channel_credentials(*files), options=options)
+
+
 class Controller:
     """A controller, over one connection of its own. `election` is the election id of its calls."""
 
     def __init__(self, port, options=()):
-        self.channel = grpc.insecure_channel(f"127.0.0.1:{port}", options=[*OPTIONS, *options])
+        self.channel = channel_to(port, options)
         self.election = 1
         self.asked = self.stream = None
         self.heard = queue.Queue()

@@ -10,14 +10,17 @@ from p4tools.protofile import read_proto
 PROTOS = os.path.join(os.path.dirname(os.path.abspath(__file__)), "protos")
 
 
-def _classes():
-    """The classes by their full names."""
+def proto(name):
+    """The FileDescriptorProto of a file of protos/."""
+    with open(os.path.join(PROTOS, name), encoding="utf-8") as it:
+        return read_proto(name, it.read())
+
+
+def classes(files):
+    """The classes of FileDescriptorProtos, those that they import first, by their full names."""
     pool = descriptor_pool.DescriptorPool()
-    files = []
-    for name in ("p4types.proto", "p4info.proto", "status.proto", "p4runtime.proto"):
-        with open(os.path.join(PROTOS, name), encoding="utf-8") as it:
-            files.append(read_proto(name, it.read()))
-        pool.Add(files[-1])
+    for file in files:
+        pool.Add(file)
     made = {}
     for file in files:
         for message in pool.FindFileByName(file.name).message_types_by_name.values():
@@ -32,7 +35,7 @@ def _class_of(pool, message):
     return message_factory.MessageFactory(pool).GetPrototype(message)
 
 
-CLASSES = _classes()
+CLASSES = classes([proto(it) for it in ("p4types.proto", "p4info.proto", "status.proto", "p4runtime.proto")])
 P4Info = CLASSES["p4.config.v1.P4Info"]
 Status = CLASSES["google.rpc.Status"]
 Any = CLASSES["google.rpc.Any"]
