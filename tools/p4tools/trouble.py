@@ -29,17 +29,18 @@ def no_such(kind, word, known):
 
 class Progress:
     """Says on standard error how far a run is, from two seconds on, and then once a second on a
-    terminal or every ten seconds elsewhere. Where the total is not known, how much is done."""
+    terminal or every ten seconds elsewhere. Where the total is not known, how much is done. It looks
+    at the clock once in so many times that `at` is called."""
 
-    def __init__(self, script, what, total=None):
-        self.script, self.what, self.total = script, what, total
+    def __init__(self, script, what, total=None, every=256):
+        self.script, self.what, self.total, self.every = script, what, total, every
         self.on_terminal = sys.stderr.isatty()
         self.next = time.monotonic() + 2
         self.has_told = False
 
     def at(self, done):
         """Called with what is done so far; cheap where nothing is due."""
-        if done & 255 or time.monotonic() < self.next:
+        if done % self.every or time.monotonic() < self.next:
             return
         self.next = time.monotonic() + (1 if self.on_terminal else 10)
         self.has_told = True
