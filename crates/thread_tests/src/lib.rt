@@ -3,3 +3,5 @@
 
 #[cfg(test)]
 mod counters;
+#[cfg(test)]
+mod stamps;
