@@ -74,7 +74,7 @@ class Scripts(unittest.TestCase):
 
     def test_wrong_files(self):
         for words, said in ((["show", "no.tape"], "no.tape is not read: No such file or directory"),
-                            (["show", "README.md"], "README.md is not read"),
+                            (["show", "README.md"], "README.md:1: '# Examples' is no line of a report; a report is what `bin/p4switch replay` writes"),
                             (["show", "operator/customer.pcap"], "neither a tape, which begins with P4TAPE1, nor a report"),
                             (["show", "operator/routes.scenario"], "is no line of a report"),
                             (["diff", "operator/routes.report", "operator/routes.tape"], "is no report"),

@@ -126,7 +126,7 @@ class Sent(Case):
         status, out, _ = self.run_it("--election", "9", "play", os.path.join(EXAMPLES, "operator/routes.scenario"))
         self.assertEqual(status, 1)
         self.assertEqual(out.splitlines()[-1], "# 10 calls, 12 packets, 1 refused")
-        self.assertIn("routes.scenario:31: refused\nbatch dataplane_atomic of 3 updates: UNKNOWN", out)
+        self.assertIn("routes.scenario:43: refused\nbatch dataplane_atomic of 3 updates: UNKNOWN", out)
         self.assertEqual(p4.number_of(p4.parse(p4.WriteRequest, self.switch.calls("write")[-1].message()).election_id), 9)
 
 
