@@ -19,13 +19,9 @@ Of each time the least of three runs counts. Times and memory are of this machin
 """
 import itertools
 import json
-import os
 import sys
 
-from calls import long_field
-from pipelines import fields
-from replay import TOP, run
-from stages import router
+from common import built, bytes_field, fields, router, run, varint
 
 LONGEST = 4 * 2**20
 
@@ -94,8 +90,8 @@ def with_actions(info, program, size):
     longer = b""
     for number, value in fields(info):
         if number == 2:
-            value += long_field(3, [ref for kind, ref in fields(value) if kind == 3][-1]) * pairs
-        longer += long_field(number, value)
+            value += bytes_field(3, [ref for kind, ref in fields(value) if kind == 3][-1]) * pairs
+        longer += bytes_field(number, value)
     return longer, program
 
 
@@ -154,17 +150,9 @@ PARTS = {"match fields": (2, 2), "references to actions": (2, 3), "parameters": 
 NUMBERS = {"ids of counters": (2, 7), "ids of tables": (4, 2)}
 
 
-def varint(number):
-    """The bytes of a number."""
-    digits = b""
-    while number >= 128:
-        digits, number = digits + bytes([number % 128 + 128]), number // 128
-    return digits + bytes([number])
-
-
 def preamble(kind, number, more=b""):
     """A preamble with an id of this kind and a name."""
-    return long_field(1, b"\x08" + varint(HIGH[kind] * 2**24 + number) + long_field(2, NAMES[number]) + more)
+    return bytes_field(1, b"\x08" + varint(HIGH[kind] * 2**24 + number) + bytes_field(2, NAMES[number]) + more)
 
 
 def infos():
@@ -172,26 +160,26 @@ def infos():
     and a name, and annotations without a character in a P4Info that breaks no rule."""
     size = LONGEST // 4
     for name, kind in OBJECTS.items():
-        yield "empty " + name, long_field(kind, b"") * (size // 2)
+        yield "empty " + name, bytes_field(kind, b"") * (size // 2)
     for name, (kind, part) in PARTS.items():
-        yield "empty " + name, long_field(kind, preamble(kind, 1) + long_field(part, b"") * (size // 2))
+        yield "empty " + name, bytes_field(kind, preamble(kind, 1) + bytes_field(part, b"") * (size // 2))
     for name, (kind, number) in NUMBERS.items():
-        yield name, long_field(kind, preamble(kind, 1) + long_field(number, b"\x01" * size))
+        yield name, bytes_field(kind, preamble(kind, 1) + bytes_field(number, b"\x01" * size))
     for name, kind in (("tables", 2), ("actions", 3)):
-        ids = (long_field(kind, long_field(1, b"\x08" + varint(i + 1))) for i in range(size // 8))
+        ids = (bytes_field(kind, bytes_field(1, b"\x08" + varint(i + 1))) for i in range(size // 8))
         yield name + " with an id", b"".join(ids)
-        named = (long_field(kind, preamble(kind, i + 1)) for i in range(size // 16))
+        named = (bytes_field(kind, preamble(kind, i + 1)) for i in range(size // 16))
         yield name + " with an id and a name", b"".join(named)
     for name, text in (("", b""), (" of a letter", b"a")):
-        one = long_field(4, text)
-        yield "annotations" + name, long_field(3, preamble(3, 1, one * (size // len(one))))
-    for name, one in (("references with an id", long_field(3, b"\x08\x01")), ("match fields with an id", long_field(2, b"\x08\x01"))):
-        yield name, long_field(2, preamble(2, 1) + one * (size // len(one)))
+        one = bytes_field(4, text)
+        yield "annotations" + name, bytes_field(3, preamble(3, 1, one * (size // len(one))))
+    for name, one in (("references with an id", bytes_field(3, b"\x08\x01")), ("match fields with an id", bytes_field(2, b"\x08\x01"))):
+        yield name, bytes_field(2, preamble(2, 1) + one * (size // len(one)))
     for name, kind in (("parameters", 3), ("metadata", 9)):
-        one = [long_field(2, b"\x08" + varint(i + 1) + long_field(2, NAMES[i]) + b"\x20\x08") for i in range(size // 16)]
-        yield name + " with an id and a name", long_field(kind, preamble(kind, 1) + b"".join(one))
-    yield "fields that are not known", long_field(3, preamble(3, 1) + b"\x78\x01" * (size // 2))
-    yield "digests' types", b"".join(long_field(12, long_field(1, b"\x08" + varint(i + 1)) + long_field(2, b"")) for i in range(size // 10))
+        one = [bytes_field(2, b"\x08" + varint(i + 1) + bytes_field(2, NAMES[i]) + b"\x20\x08") for i in range(size // 16)]
+        yield name + " with an id and a name", bytes_field(kind, preamble(kind, 1) + b"".join(one))
+    yield "fields that are not known", bytes_field(3, preamble(3, 1) + b"\x78\x01" * (size // 2))
+    yield "digests' types", b"".join(bytes_field(12, bytes_field(1, b"\x08" + varint(i + 1)) + bytes_field(2, b"")) for i in range(size // 10))
 
 
 def judged(program, config):
@@ -206,22 +194,22 @@ def judged(program, config):
 
 
 def main():
-    program = sys.argv[1] if len(sys.argv) > 1 else os.path.join(TOP, "crates/p4switch/out/p4switch")
+    program = sys.argv[1] if len(sys.argv) > 1 else built("p4switch")
     sizes = [min(LONGEST, int(float(word) * 2**20)) for word in sys.argv[2:]] or [LONGEST // 4, LONGEST // 2, LONGEST]
     parts = dict(fields(router()))
     plain = json.dumps(json.loads(parts[2]), separators=(",", ":")).encode()
     first = {}
     for size in sizes:
         for name, info, longer in configs(parts[1], plain, size):
-            config = long_field(1, info) + long_field(2, longer)
+            config = bytes_field(1, info) + bytes_field(2, longer)
             seconds, peak, status = judged(program, config)
             print("%s, %.2f MiB: %.3f s, %.2f times the first, peak %.1f times the bytes%s"
                   % (name, len(config) / 2**20, seconds, seconds / first.setdefault(name, seconds), peak * 1024 / len(config), " (refused)" if status else ""), flush=True)
-    _, own, _ = judged(program, long_field(1, parts[1]) + long_field(2, plain))
+    _, own, _ = judged(program, bytes_field(1, parts[1]) + bytes_field(2, plain))
     print("the program by itself: %.1f MiB" % (own / 1024))
     most = {}
     for name, item, longer in short(plain):
-        config = long_field(1, parts[1]) + long_field(2, longer)
+        config = bytes_field(1, parts[1]) + bytes_field(2, longer)
         _, status, peak = run(program, config, ("check",))
         if status not in (0, 8):
             sys.exit("%s: status %d" % (program, status))
@@ -229,7 +217,7 @@ def main():
     for name, (times, item) in most.items():
         print("short items in %s, 4 MiB: peak at most %.1f times the bytes beside that, for %s (at most 12 are meant)" % (name, times, item), flush=True)
     for name, info in infos():
-        config = long_field(1, info) + long_field(2, plain)
+        config = bytes_field(1, info) + bytes_field(2, plain)
         _, status, peak = run(program, config, ("check",))
         if status not in (0, 8):
             sys.exit("%s: status %d" % (program, status))

@@ -6,12 +6,11 @@ the bytes of an HTTP/2 connection with 1 MiB of data come, the least time a byte
 ratio of pieces of one byte is the cost of a call for each byte; it does not grow with the bytes before it. Times are of
 this machine, ratios of one run.
 """
-import os
 import re
 import subprocess
 import sys
 
-from replay import TOP
+from common import built
 
 
 def once(program):
@@ -20,7 +19,7 @@ def once(program):
 
 
 def main():
-    program = sys.argv[1] if len(sys.argv) > 1 else os.path.join(TOP, "crates/speed/out/speed")
+    program = sys.argv[1] if len(sys.argv) > 1 else built("speed")
     runs = [once(program) for _ in range(3)]
     least = {size: min(run[size] for run in runs) for size in runs[0]}
     whole = max(least)

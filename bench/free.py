@@ -14,11 +14,7 @@ import re
 import subprocess
 import sys
 
-from calls import tape
-from packets import HEAD
-from pipelines import ARBITRATE, VERIFY_AND_COMMIT, put, routes
-from replay import program_given, record
-from stages import router
+from common import ARBITRATE, HEAD, MEET, PACKET, VERIFY_AND_COMMIT, program_given, put, record, router, routes, tape
 
 ROUNDS = 3
 WORKERS = (1, 2, 4)
@@ -27,8 +23,8 @@ TOLD = re.compile(r"(\d+) calls, (\d+) packets, (\d+) bytes of report\nread (\d+
 
 def tape_for(config, workers, records):
     calls = [ARBITRATE, put(VERIFY_AND_COMMIT, config), routes(config, 4)]
-    meets = [record(5, worker, bytes([0, 0, 0, 0, 0, 3])) for worker in range(workers)]
-    packets = [record(2, worker, b"\x00\x01" + HEAD + bytes([10, 0, worker, 1])) for worker in range(workers)]
+    meets = [record(MEET, worker, bytes([0, 0, 0, 0, 0, 3])) for worker in range(workers)]
+    packets = [record(PACKET, worker, b"\x00\x01" + HEAD + bytes([10, 0, worker, 1])) for worker in range(workers)]
     count = records - len(calls) - len(meets)
     return count, tape(calls + meets + [packets[i % workers] for i in range(count)])
 

@@ -11,17 +11,12 @@ Of each time the least of several runs counts. Times are of this machine.
 """
 import os
 import re
-import subprocess
-import sys
 import tempfile
 
-from calls import long_field, tape
-from pipelines import ARBITRATE, VERIFY_AND_COMMIT, least, number, put, shortest
-from replay import TOP, record
-from stages import PROGRAMS
+from common import (ARBITRATE, DELETE, INSERT, PROGRAMS, VERIFY_AND_COMMIT, bytes_field, config_of, least, number_field, program_given,
+                    put, shortest, tape, write)
 
 PROFILE, SET_PORT = 285212673, 16777233
-INSERT, DELETE = 1, 3
 
 
 def laboratory():
@@ -31,24 +26,17 @@ def laboratory():
     with tempfile.NamedTemporaryFile("w", suffix=".txt") as info:
         info.write(text)
         info.flush()
-        made = subprocess.run([os.path.join(TOP, "bin/p4config"), info.name, os.path.join(PROGRAMS, "lab.json")],
-                              stdout=subprocess.PIPE, check=True)
-    return made.stdout
-
-
-def write(updates):
-    body = b"".join(long_field(4, number(1, kind) + long_field(2, entity)) for kind, entity in updates)
-    return record(1, 0, b"\x01" + number(1, 1) + long_field(3, number(2, 1)) + body)
+        return config_of(info.name, os.path.join(PROGRAMS, "lab.json"))
 
 
 def member(place):
-    call = number(1, SET_PORT) + long_field(4, number(2, 1) + long_field(3, shortest(1 + place % 8)))
-    return long_field(3, number(1, PROFILE) + number(2, 1 + place) + long_field(3, call))
+    call = number_field(1, SET_PORT) + bytes_field(4, number_field(2, 1) + bytes_field(3, shortest(1 + place % 8)))
+    return bytes_field(3, number_field(1, PROFILE) + number_field(2, 1 + place) + bytes_field(3, call))
 
 
 def group(place, first):
-    shares = b"".join(long_field(3, number(1, 1 + first + share) + number(2, 1)) for share in range(256))
-    return long_field(4, number(1, PROFILE) + number(2, 1 + place) + shares)
+    shares = b"".join(bytes_field(3, number_field(1, 1 + first + share) + number_field(2, 1)) for share in range(256))
+    return bytes_field(4, number_field(1, PROFILE) + number_field(2, 1 + place) + shares)
 
 
 def members(count):
@@ -60,7 +48,7 @@ def rounds(place, first, count):
 
 
 def main():
-    program = sys.argv[1] if len(sys.argv) > 1 else os.path.join(TOP, "crates/p4switch/out/p4switch")
+    program, _ = program_given("p4switch")
     start = [ARBITRATE, put(VERIFY_AND_COMMIT, laboratory())]
     others = [write([(INSERT, group(100 + place, 256 + place * 32))]) for place in range(32)]
     for name, before in (("its own 256 members", members(256)), ("2,048 members more", members(2304)), ("32 groups more besides", members(2304) + others)):

@@ -9,20 +9,17 @@ does not grow with the calls before it. Of each time the least of three runs cou
 one run.
 """
 
-from calls import long_field, tape
 from clients import frames
-from pipelines import least
-from replay import program_given, record
+from common import (BYTES, CALL, INSERT, LOCKSTEP, MODIFY, WRITE, WRITES, bridge_entry, bytes_field, least, number_field, program_given,
+                    record, tape)
 
 METHOD = "/p4.v1.P4Runtime/Write"
 
 
 def message(i):
     """A Write that makes the one entry of the bridge, or gives it another port."""
-    action = bytes.fromhex("1a0e0a0c0881808008220510011a01%02x" % (i % 200))
-    entry = bytes.fromhex("08818080101207080112030a0102") + action
-    update = bytes([8, 2 if i else 1]) + long_field(2, long_field(2, entry))
-    return bytes.fromhex("08011a021001") + long_field(4, update)
+    update = number_field(1, MODIFY if i else INSERT) + bytes_field(2, bridge_entry(2, i % 200))
+    return WRITES + bytes_field(4, update)
 
 
 def opening():
@@ -39,15 +36,15 @@ def unary(i):
 
 def of_bytes(count, size):
     data = opening() + b"".join(unary(i) for i in range(count))
-    return tape(record(3, 0, data[at : at + size]) for at in range(0, len(data), size))
+    return tape(record(BYTES, 0, data[at : at + size]) for at in range(0, len(data), size))
 
 
 def of_records(count):
-    return tape(record(1, 0, b"\x01" + message(i)) for i in range(count))
+    return tape(record(CALL, 0, WRITE + message(i)) for i in range(count))
 
 
 def timed(program, data):
-    return least(program, data, 3, ("replay", "--lockstep", "--bridge"))
+    return least(program, data, 3, (*LOCKSTEP, "--bridge"))
 
 
 def main():

@@ -8,30 +8,26 @@ beside the tape's bytes. A tape has at most 1,000,000 records. The time a packet
 in both. Times and memory are of this machine; the ratio is what to quote.
 """
 
-from calls import tape, write
-from pipelines import ARBITRATE, VERIFY_AND_COMMIT, put, routes
-from replay import program_given, record, run
-from stages import router
-
-HEAD = bytes([2, 0, 0, 0, 0, 10, 2, 0, 0, 0, 0, 1, 8, 0, 0x45, 0, 0, 20, 0, 0, 0, 0, 64, 1, 0, 0, 10, 0, 0, 1])
+from common import (ARBITRATE, HEAD, INSERT, LOCKSTEP, PACKET, VERIFY_AND_COMMIT, bridge_entry, program_given, put, record, router,
+                    routes, run, tape, write)
 
 
 def routed(count):
     """Packets to the four routes in turn."""
-    return [record(2, i % 16, b"\x00\x01" + HEAD + bytes([10, 0, i % 4, 1])) for i in range(count)]
+    return [record(PACKET, i % 16, b"\x00\x01" + HEAD + bytes([10, 0, i % 4, 1])) for i in range(count)]
 
 
 def bridged(count):
     """Packets to the four addresses in turn."""
-    return [record(2, i % 16, b"\x00\x01" + bytes([0, 0, 0, 0, 0, 2 + i % 4]) + HEAD[6:] + bytes(4)) for i in range(count)]
+    return [record(PACKET, i % 16, b"\x00\x01" + bytes([0, 0, 0, 0, 0, 2 + i % 4]) + HEAD[6:] + bytes(4)) for i in range(count)]
 
 
 def main():
     program, words = program_given("p4switch")
     count = int(words[0]) if words else 999000
     config = router()
-    kinds = [("router", [ARBITRATE, put(VERIFY_AND_COMMIT, config), routes(config, 4)], routed, ("replay", "--lockstep")),
-             ("bridge", [write(1, address, 2) for address in range(2, 6)], bridged, ("replay", "--lockstep", "--bridge"))]
+    kinds = [("router", [ARBITRATE, put(VERIFY_AND_COMMIT, config), routes(config, 4)], routed, LOCKSTEP),
+             ("bridge", [write([(INSERT, bridge_entry(address, 2))]) for address in range(2, 6)], bridged, (*LOCKSTEP, "--bridge"))]
     each = {}
     for name, calls, packets, asked in kinds:
         few, status, _ = run(program, tape(calls + packets(count // 10)), asked)

@@ -14,15 +14,9 @@ import subprocess
 import sys
 import tempfile
 
-TOP = os.path.join(os.path.dirname(os.path.abspath(__file__)), "..")
-PROGRAMS = os.path.join(TOP, "examples/programs")
+from common import built, router
+
 ROUNDS = 5
-
-
-def router():
-    made = subprocess.run([os.path.join(TOP, "bin/p4config"), os.path.join(PROGRAMS, "router.p4info.txt"), os.path.join(PROGRAMS, "router.json")],
-                          stdout=subprocess.PIPE, check=True)
-    return made.stdout
 
 
 def loop(program):
@@ -38,14 +32,14 @@ def parts(program, config):
 def main():
     if len(sys.argv) < 2:
         sys.exit(__doc__)
-    program = sys.argv[2] if len(sys.argv) > 2 else os.path.join(TOP, "crates/speed/out/speed")
+    program = sys.argv[2] if len(sys.argv) > 2 else built("speed")
     config = open(sys.argv[3], "rb").read() if len(sys.argv) > 3 else router()
     with tempfile.TemporaryDirectory() as folder:
-        built = os.path.join(folder, "loop")
-        subprocess.run(["cc", "-O2", "-o", built, sys.argv[1]], check=True)
+        own_loop = os.path.join(folder, "loop")
+        subprocess.run(["cc", "-O2", "-o", own_loop, sys.argv[1]], check=True)
         own, least = None, {}
         for _ in range(ROUNDS):
-            own = min(own or 1e9, loop(built))
+            own = min(own or 1e9, loop(own_loop))
             for name, each in parts(program, config).items():
                 least[name] = min(least.get(name, 1e9), each)
     print("the loop: %.1f ns a packet" % own)

@@ -16,11 +16,8 @@ import re
 import subprocess
 import sys
 
-from calls import tape
-from packets import HEAD
-from pipelines import ARBITRATE, VERIFY_AND_COMMIT, first_ids, long_field, number, put, route, routes
-from replay import program_given, record
-from stages import router
+from common import (ARBITRATE, HEAD, MODIFY, PACKET, VERIFY_AND_COMMIT, first_ids, number_field, program_given, put, record, route,
+                    router, routes, tape, write)
 
 ROUNDS = 3
 ROUTES = 1000
@@ -29,18 +26,17 @@ TURNS = 50000
 TAPE = "/dev/stdin"
 LOOKED = "4 calls OK, %d of the writer\n3 readers: 0 snapshots torn, 0 older than the one before, %d of %d steps seen by each\n"
 TOLD = re.compile(r"(\d+) calls OK, (\d+) workers, (\d+) .*\n(\d+) us, (\d+) calls of the writer OK, (\d+) additions in (\d+) us\n")
-ATOMIC = number(5, 2)
+ATOMIC = number_field(5, 2)
 
 
 def replacing(config, lane, places, port):
     """A Write that sends these routes to another port, all at once."""
-    table, action = first_ids(config)
-    updates = [long_field(4, number(1, 2) + long_field(2, long_field(2, route(table, action, place, port)))) for place in places]
-    return record(1, lane, b"\x01" + number(1, 1) + long_field(3, number(2, 1)) + b"".join(updates) + ATOMIC)
+    ids = first_ids(config)
+    return write([(MODIFY, route(*ids, place, port)) for place in places], ATOMIC, lane)
 
 
 def packet(worker, place):
-    return record(2, worker, b"\x00\x01" + HEAD + bytes([10, 0, place, 1]))
+    return record(PACKET, worker, b"\x00\x01" + HEAD + bytes([10, 0, place, 1]))
 
 
 def opening(config, count):

@@ -7,6 +7,7 @@ their lines. Without --write it says whether the page is as the code is, and end
 import os
 import re
 import sys
+from collections.abc import Iterable
 
 TOP = os.path.dirname(os.path.dirname(os.path.abspath(__file__)))
 PAGE = os.path.join(TOP, "docs", "audit.md")
@@ -15,25 +16,26 @@ USE = re.compile(r"(?:ghost )?(?:pub )?use Rattle\.(\w+)\.specs\.([\w.]+?)(?:\.\
 ROW = re.compile(r"\| `(\w+)` \| [^|]* \| [^|]* \| (.*) \|$")
 
 
-def read(file):
+def read(file: str) -> str:
     with open(os.path.join(TOP, file), encoding="utf-8") as it:
         return it.read()
 
 
-def imports(text):
+def imports(text: str) -> list[tuple[str, str]]:
     """The definitions' files that a text uses, as pairs of a crate and a module."""
-    return [it.groups() for it in map(USE.match, map(str.strip, text.splitlines())) if it]
+    return [(it[1], it[2]) for it in map(USE.match, map(str.strip, text.splitlines())) if it]
 
 
-def count_lines(text):
+def count_lines(text: str) -> int:
     """Its lines without blank ones, comments and imports."""
     lines = (it.strip() for it in text.splitlines())
     return sum(1 for it in lines if it and not it.startswith(("--", "use ")))
 
 
-def reached():
+def reached() -> dict[str, dict[str, int]]:
     """What the statement reaches of this repository's definitions, crate by crate: {crate: {file: lines}}."""
-    found, todo = {}, imports(read(STATEMENT))
+    found: dict[str, dict[str, int]] = {}
+    todo = imports(read(STATEMENT))
     while todo:
         crate, module = todo.pop()
         file = os.path.join("crates", crate, "specs", module.replace(".", "/") + ".antt")
@@ -45,7 +47,7 @@ def reached():
     return found
 
 
-def statement():
+def statement() -> list[str]:
     """The lines of `run` up to its body."""
     lines = read(STATEMENT).splitlines()
     first = next(place for place, it in enumerate(lines) if it.startswith("pub fn run<"))
@@ -53,7 +55,7 @@ def statement():
     return [f"    {it}".rstrip() for it in lines[first:last]]
 
 
-def between(page, name, lines):
+def between(page: str, name: str, lines: Iterable[str]) -> str:
     """The page with these lines between the marks of a name."""
     head, begin, rest = page.partition(f"<!-- {name} -->\n")
     _, end, tail = rest.partition(f"<!-- end of {name} -->\n")
@@ -62,20 +64,20 @@ def between(page, name, lines):
     return head + begin + "\n".join(lines) + "\n" + end + tail
 
 
-def rows(page, found):
+def rows(page: str, found: dict[str, dict[str, int]]) -> list[str]:
     """The table's rows, in the page's order, with files and lines as they are now."""
     made = ["", "| Crate | Files in `specs/` | Lines | What they say |", "|---|---|---|---|"]
-    told = dict(it.groups() for it in map(ROW.match, page.splitlines()) if it)
+    told = {it[1]: it[2] for it in map(ROW.match, page.splitlines()) if it}
     for crate in [*told, *sorted(set(found) - set(told))]:
         if crate in found:
-            files = ", ".join(sorted(found[crate]))
-            made.append(f"| `{crate}` | {files} | {sum(found[crate].values()):,} | {told.get(crate, 'not told yet')} |")
+            named = ", ".join(sorted(found[crate]))
+            made.append(f"| `{crate}` | {named} | {sum(found[crate].values()):,} | {told.get(crate, 'not told yet')} |")
     files = sum(len(it) for it in found.values())
     total = sum(sum(it.values()) for it in found.values())
     return made + [f"| all | {files} files | {total:,} | |", ""]
 
 
-def refreshed(page):
+def refreshed(page: str) -> str:
     """The page as it is to be."""
     page = between(page, "statement", ["", *statement(), ""])
     return between(page, "reached", rows(page, reached()))

@@ -8,7 +8,7 @@ import unittest
 TOP = os.path.dirname(os.path.dirname(os.path.abspath(__file__)))
 # As LLVM builds it, and as Rattle's own compiler does.
 BUILDS = [os.path.join(TOP, "crates", "p4switch", "out", it) for it in ("p4switch", "p4switch.by-rattle")]
-SAID = []
+SAID: list[str] = []
 
 
 def program():

@@ -41,9 +41,21 @@ _p4tape() {
   fi
 }
 
-# The commands that a script's help has in its usage line: {a,b,c} or a | b | c.
+_p4config() {
+  local command=
+  if [ "$COMP_CWORD" -gt 1 ] && [ "${COMP_WORDS[1]}" = draw ]; then command=draw; fi
+  case ${COMP_WORDS[COMP_CWORD]} in
+    -*) _p4_offer "$(_p4_options "${COMP_WORDS[0]}" $command)" ;;
+    *)
+      _p4_files
+      [ "$COMP_CWORD" != 1 ] || [[ draw != "${COMP_WORDS[1]}"* ]] || COMPREPLY=(draw "${COMPREPLY[@]}")
+      ;;
+  esac
+}
+
+# The commands that a script's help has in its usage line, which is to be one line: {a,b,c} or a | b | c.
 _p4_commands() {
-  "$1" --help 2> /dev/null | sed -n '1,/^$/p' | grep -o '{[a-z,-]*}\|[a-z-]* | .*' | head -1 | tr -d '{}' | sed 's/ \.\.\.//; s/[|,]/ /g'
+  COLUMNS=1000 "$1" --help 2> /dev/null | sed -n '1,/^$/p' | grep -o '{[a-z,-]*}\|[a-z-]* | .*' | head -1 | tr -d '{}' | sed 's/ \.\.\.//; s/[|,]/ /g'
 }
 
 # The options that a script's help has, of a command where one is given.
@@ -110,4 +122,5 @@ _p4_line() {
 complete -F _p4switch p4switch
 complete -F _p4tape p4tape
 complete -F _p4ctl p4ctl
-complete -F _p4_plain p4config p4front p4ports p4lab
+complete -F _p4config p4config
+complete -F _p4_plain p4front p4ports p4lab

@@ -7,6 +7,10 @@ reader's choice of dark or light, and has no background of its own.
 import html
 import shlex
 import sys
+from collections.abc import Iterable, Iterator
+from typing import Union
+
+Number = Union[int, float]
 
 LINE, HEAD = 17, 24
 STYLE = """
@@ -32,30 +36,31 @@ STYLE = """
 class Box:
     """A rectangle; `right` and `bottom` are its far sides."""
 
-    def __init__(self, left, top, width, height, texts):
+    def __init__(self, left: Union[int, str], top: Union[int, str], width: Union[int, str], height: Union[int, str],
+                 texts: list[str]) -> None:
         self.left, self.top, self.width, self.height = (int(it) for it in (left, top, width, height))
         self.right, self.bottom = self.left + self.width, self.top + self.height
         self.middle = (self.left + self.right) / 2
         self.texts = texts
 
 
-def rectangle(box, kind):
+def rectangle(box: Box, kind: str) -> str:
     return f'<rect class="{kind}" x="{box.left}" y="{box.top}" width="{box.width}" height="{box.height}" rx="8"/>'
 
 
-def text_at(x, y, text, kind="", anchor="middle"):
+def text_at(x: Number, y: Number, text: str, kind: str = "", anchor: str = "middle") -> str:
     kind = f' class="{kind}"' if kind else ""
     return f'<text{kind} x="{x:g}" y="{y:g}" text-anchor="{anchor}">{html.escape(text)}</text>'
 
 
-def draw_box(box):
+def draw_box(box: Box) -> Iterator[str]:
     yield rectangle(box, "box")
     first = box.top + (box.height - LINE * (len(box.texts) - 1)) / 2 + 5
     for number, text in enumerate(box.texts):
         yield text_at(box.middle, first + LINE * number, text, "" if number else "title")
 
 
-def shared(low, high, other_low, other_high, at):
+def shared(low: int, high: int, other_low: int, other_high: int, at: float) -> float:
     """The place, so far along what two sides have in common."""
     low, high = max(low, other_low), min(high, other_high)
     if low >= high:
@@ -63,23 +68,23 @@ def shared(low, high, other_low, other_high, at):
     return low + (high - low) * at
 
 
-def draw_arrow(start, end, label, is_both, at):
+def draw_arrow(start: Box, end: Box, label: str, is_both: bool, at: float) -> Iterator[str]:
     marks = ' marker-end="url(#end)"' + (' marker-start="url(#start)"' if is_both else "")
     if max(start.left, end.left) < min(start.right, end.right):
-        x = shared(start.left, start.right, end.left, end.right, at)
-        y, to = (start.bottom + 3, end.top - 3) if start.bottom < end.top else (start.top - 3, end.bottom + 3)
-        yield f'<path class="arrow" d="M{x:g} {y:g} V{to:g}"{marks}/>'
+        place = shared(start.left, start.right, end.left, end.right, at)
+        first, to = (start.bottom + 3, end.top - 3) if start.bottom < end.top else (start.top - 3, end.bottom + 3)
+        yield f'<path class="arrow" d="M{place:g} {first:g} V{to:g}"{marks}/>'
         if label:
-            yield text_at(x + 8, (y + to) / 2 + 4, label, "label", "start")
+            yield text_at(place + 8, (first + to) / 2 + 4, label, "label", "start")
         return
-    y = shared(start.top, start.bottom, end.top, end.bottom, at)
-    x, to = (start.right + 3, end.left - 3) if start.right < end.left else (start.left - 3, end.right + 3)
-    yield f'<path class="arrow" d="M{x:g} {y:g} H{to:g}"{marks}/>'
+    place = shared(start.top, start.bottom, end.top, end.bottom, at)
+    first, to = (start.right + 3, end.left - 3) if start.right < end.left else (start.left - 3, end.right + 3)
+    yield f'<path class="arrow" d="M{first:g} {place:g} H{to:g}"{marks}/>'
     if label:
-        yield text_at((x + to) / 2, y - 7, label, "label")
+        yield text_at((first + to) / 2, place - 7, label, "label")
 
 
-def head(size, title):
+def head(size: tuple[int, int], title: str) -> Iterator[str]:
     yield f'<svg xmlns="http://www.w3.org/2000/svg" viewBox="0 0 {size[0]} {size[1]}" role="img" aria-label="{title}">'
     yield f"<title>{title}</title>"
     yield f"<style>{STYLE}</style>"
@@ -90,9 +95,12 @@ def head(size, title):
     yield "</defs>"
 
 
-def draw(lines):
+def draw(lines: Iterable[str]) -> Iterator[str]:
     """The lines of the SVG of a text's lines."""
-    size, title, boxes, parts, arrows = (0, 0), "", {}, [], []
+    size, title = (0, 0), ""
+    boxes: dict[str, Box] = {}
+    parts: list[str] = []
+    arrows: list[str] = []
     for number, line in enumerate(lines, 1):
         words = shlex.split(line, comments=True)
         match words:

@@ -19,6 +19,8 @@ from test_lab import listening
 HERE = os.path.dirname(os.path.abspath(__file__))
 PROGRAM = os.path.join(HERE, "../bin/p4ports")
 PATIENCE = 120
+# Python has no name for it.
+SO_RCVBUFFORCE = 33
 HEAD = bytes.fromhex("020000000002" "020000000001" "88b5")
 SERVER = """
 import hashlib, socket
@@ -46,6 +48,14 @@ assert found == hashlib.sha256(data).digest(), "other bytes came"
 
 def do(*words):
     subprocess.run(words, check=True)
+
+
+def widen(made, size):
+    """Makes the queue of a socket so long. In a namespace of its own this process may have more than the system gives to all."""
+    try:
+        made.setsockopt(socket.SOL_SOCKET, SO_RCVBUFFORCE, size)
+    except PermissionError:
+        made.setsockopt(socket.SOL_SOCKET, socket.SO_RCVBUF, size)
 
 
 def ones_sum(data):
@@ -90,7 +100,7 @@ class Ports:
 
     def listen(self):
         self.switch = socket.socket(socket.AF_INET, socket.SOCK_DGRAM)
-        self.switch.setsockopt(socket.SOL_SOCKET, socket.SO_RCVBUF, 1 << 22)
+        widen(self.switch, 1 << 22)
         self.switch.bind(("127.0.0.1", self.packets))
         self.switch.settimeout(PATIENCE)
 

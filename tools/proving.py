@@ -120,7 +120,7 @@ class Teller:
         self.watch = Watch(top, program, read_crates(top))
         self.begun = self.last = self.spoken = time.monotonic()
         tell(program, f"{self.watch.all} crates and the program are to be proved and built, which takes "
-                      "many minutes on a new machine; a first look in a minute: bin/p4switch --preview ..")
+                      "many minutes on a new machine; a first look in two to four: bin/p4switch --preview ..")
 
     def look(self):
         """Tells what is new."""

@@ -8,6 +8,7 @@ from concurrent import futures
 
 import grpc
 
+from p4tools import front_words
 from p4tools import messages as p4
 from p4tools.tape import CALL, METHOD_NUMBERS, Record
 
@@ -60,6 +61,8 @@ class Standin:
         # The Errors of the next Write, the code (and the Status's message) of the next call of a method, the
         # Error's rule and code for the next packet.
         self.errors, self.refusal, self.packet_error = [], {}, None
+        # Whether refusals have texts, as behind `bin/p4front --words`, and the method that was asked for last.
+        self.has_words, self.method = False, None
         self.others = []
         self.server = grpc.server(futures.ThreadPoolExecutor(16))
         self.server.add_generic_rpc_handlers((Handler(self),))
@@ -75,12 +78,16 @@ class Standin:
 
     def _keep(self, method, data):
         with self.lock:
+            self.method = method
             self.log.append(Record(CALL, 0, bytes([METHOD_NUMBERS[method]]) + data))
 
     def _refuse(self, context, code, details=None):
-        if details is not None:
-            context.set_trailing_metadata((("grpc-status-details-bin", details.SerializeToString()),))
-        context.abort(code_of(code), "")
+        text, data = "", details.SerializeToString() if details is not None else b""
+        if self.has_words:
+            text, data = front_words.of_status(self.method, code, details.message if details is not None else "", data, 1 << 20)
+        if data:
+            context.set_trailing_metadata((("grpc-status-details-bin", data),))
+        context.abort(code_of(code), text)
 
     # Calls.
 

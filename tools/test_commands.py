@@ -78,10 +78,11 @@ class Scripts(unittest.TestCase):
                             (["show", "operator/customer.pcap"], "neither a tape, which begins with P4TAPE1, nor a report"),
                             (["show", "operator/routes.scenario"], "is no line of a report"),
                             (["diff", "operator/routes.report", "operator/routes.tape"], "is no report"),
-                            (["make", "no.scenario"], "no.scenario is not read")):
+                            (["make", "no.scenario"], "no.scenario is not read"),
+                            (["show", "operator/routes.report", "--summary", "--pcap", "README.md/x"], "README.md/x is no folder")):
             with self.subTest(words):
                 status, data, told = run("p4tape", *words)
-                self.assertEqual((status, data), (2, b""))
+                self.assertEqual((status, data if "--pcap" not in words else b""), (2, b""))
                 self.assertIn(said, told)
                 self.assertTrue(all(it.startswith("p4tape: ") for it in told.splitlines()))
 

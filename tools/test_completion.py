@@ -5,6 +5,7 @@ import os
 import shutil
 import subprocess
 import unittest
+from unittest import mock
 
 HERE = os.path.dirname(os.path.abspath(__file__))
 BIN = os.path.join(os.path.dirname(HERE), "bin")
@@ -42,10 +43,23 @@ class Completion(unittest.TestCase):
         self.assertEqual(self.offered("_p4switch", "p4switch", "serve", "--port", ""), [])
 
     def test_p4tape_and_p4config(self):
-        self.assertLessEqual({"make", "show", "diff"}, set(self.offered("_p4tape", "p4tape", "")))
+        for columns in ("40", "200"):
+            with mock.patch.dict(os.environ, {"COLUMNS": columns}):
+                self.assertEqual(self.offered("_p4tape", "p4tape", ""),
+                                 ["--help", "diff", "from-pcap", "from-stf", "make", "page", "show", "test"])
         self.assertEqual(self.offered("_p4tape", "p4tape", "show", "--t"), ["--tape"])
-        self.assertEqual(self.offered("_p4_plain", "p4config", "--e"), ["--explain"])
-        self.assertEqual(self.offered("_p4_plain", "p4config", BIN + "/p4s"), [BIN + "/p4switch"])
+        for command, option in (("test", "--junit"), ("page", "--names"), ("from-stf", "--program"), ("from-pcap", "--include")):
+            self.assertIn(option, self.offered("_p4tape", "p4tape", command, "--"))
+        self.assertEqual(self.offered("_p4config", "p4config", "--e"), ["--explain"])
+        self.assertEqual(self.offered("_p4config", "p4config", BIN + "/p4s"), [BIN + "/p4switch"])
+        self.assertIn("draw", self.offered("_p4config", "p4config", "d"))
+        self.assertEqual(self.offered("_p4config", "p4config", "draw", "--p"), ["--packet"])
+        self.assertEqual(self.offered("_p4config", "p4config", "draw", BIN + "/p4s"), [BIN + "/p4switch"])
+
+    def test_p4front_p4ports_and_p4lab(self):
+        self.assertEqual(self.offered("_p4_plain", "p4front", "--rec"), ["--record"])
+        self.assertEqual(self.offered("_p4_plain", "p4ports", "--pc"), ["--pcap"])
+        self.assertEqual(self.offered("_p4_plain", "p4lab", "--gr"), ["--grpc-server-addr"])
 
     def test_p4ctl(self):
         try:

@@ -84,6 +84,14 @@ class Sent(Case):
         self.assertIn(made_of("get cookie_only")[0], self.switch.calls("get"))
         self.assertEqual(len(self.switch.calls("capabilities")), 1)
 
+    def test_multicast(self):
+        """It is an update of a multicast group, by its own word."""
+        self.router("multicast 7 replicas=1:0,3:1", "c0 multicast modify 7 replicas=2:0", "multicast delete 7")
+        made = made_of("insert multicast_group_entry 7 replicas=1:0,3:1", "modify multicast_group_entry 7 replicas=2:0",
+                       "delete multicast_group_entry 7")
+        sent = [p4.parse(p4.WriteRequest, it.message()).updates[0] for it in self.switch.calls("write")]
+        self.assertEqual(sent, [p4.parse(p4.WriteRequest, it.message()).updates[0] for it in made])
+
     def test_stream(self):
         self.told(LAB, "packet_out 00070001", "digest_ack seen list_id=4")
         asked = made_of("names " + f"{PROGRAMS}/lab.p4info.txt", "packet_out 00070001", "digest_ack seen list_id=4")
@@ -203,7 +211,7 @@ WHOLE = {
     ("set", 3): (ROUTER, "do not go together", "commit takes no files"),
     ("set", 9): (ROUTER, "no program is saved", "verify_and_save"),
     ("set", 8): (ROUTER, "no room for its counters", "fewer or smaller counters"),
-    ("set", 12): (ROUTER, "UNIMPLEMENTED", "use verify_and_commit"),
+    ("set", 12): (ROUTER, "this action is not served", "use verify_and_commit"),
     ("read", 9): ("read ipv4_lpm", "there is no program", "config verify_and_commit"),
     ("read", 5): ("read ipv4_lpm", "no such object", "`program ids`"),
 }
@@ -297,6 +305,14 @@ class Refused(Case):
         self.assertEqual(list(ctl_lines.take(session, FIRST))[0].rpartition(": ")[2], "OK")
 
 
+class Worded(Refused):
+    """The same where each refusal has its words, as behind `bin/p4front --words`."""
+
+    def setUp(self):
+        super().setUp()
+        self.switch.has_words = True
+
+
 class Wrong(Case):
     """A wrong line is told with its place and the nearest names, and is not sent."""
 
@@ -321,7 +337,10 @@ class Wrong(Case):
                              "watch a b": "write watch", "groups x": "write groups", "help insrt": "did you mean insert?",
                              "play": "write play FILE", "play no.scenario": "no.scenario is not read",
                              "listen for=1": "write listen", "meet c0 call=1": "there is nothing to meet",
-                             "multicast 7": "insert multicast_group_entry", "zzz": "`help` lists them"}.items():
+                             "multicast": "write multicast", "zzz": "`help` lists them", "c32 get": "c0 to c31",
+                             "w0 meet c0 call=1": "there is nothing to meet", "expect OK": "bin/p4tape test FILE",
+                             "c0 expect drop": "bin/p4tape test FILE", "strict ": "bin/p4tape test FILE",
+                             "start bridge": "runs already", "c1 program": "leave c1 out"}.items():
             with self.subTest(line):
                 status, out, said = self.run_it(line.split()[0], *line.split()[1:])
                 self.assertEqual((status, out), (2, ""))

@@ -122,6 +122,7 @@ class Refusals(Case):
         entry = "insert ipv4_lpm dst=10.9.0.0/16 "
         for line, rule, to_do in (
                 (entry + "drop() idle_timeout_ns=5", "UNIMPLEMENTED, rule U2", "leave it out"),
+                ("multicast 7 replicas=1:0,3:1", "UNIMPLEMENTED, rule U2", "multicast groups"),
                 ("delete 0x02000009", "NOT_FOUND, rule U3", "`program ids`"),
                 ("insert ipv4_lpm default drop()", "INVALID_ARGUMENT, rule U5", "modify alone"),
                 ("insert ipv4_lpm dst=10.0.0.0/0 drop()", "INVALID_ARGUMENT, rule U6", "leave the field out"),

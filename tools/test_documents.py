@@ -10,6 +10,8 @@ import sys
 import tempfile
 import unittest
 
+import layers
+
 HERE = os.path.dirname(os.path.abspath(__file__))
 TOP = os.path.dirname(HERE)
 # README, and what a reader comes to from it.
@@ -19,6 +21,14 @@ PAGES = ["README.md", "CONTRIBUTING.md", "SECURITY.md", "CHANGELOG.md", "example
 ALL = sorted({*PAGES, *(os.path.relpath(it, TOP) for folder in ("docs", "examples")
                         for it in glob.glob(os.path.join(TOP, folder, "**", "*.md"), recursive=True))})
 LONGEST_README, WIDEST_README = 150, 200
+# Pages whose sentences have at most so many words.
+LONGEST_SENTENCE = 30
+SHORT = ["README.md", "docs/quickstart.md", "docs/serving.md", "docs/glossary.md", "docs/compare.md", "docs/proved.md", "docs/tested.md",
+         "docs/measured.md", "docs/gate.md", "docs/map.md", "docs/edits.md", "docs/DECISIONS.md", "examples/README.md"]
+# Pages whose words of the code are there, and what in them is written like one and is none.
+OF_THE_CODE = ["docs/DECISIONS.md", "docs/definitions.md", "docs/answers.md", "docs/proved.md", "docs/tested.md", "docs/map.md", "docs/glossary.md", "docs/audit.md", "docs/gate.md",
+               "CONTRIBUTING.md"]
+NO_WORDS = {":status", "HANDLES", "LICENSE"}
 # What a path may begin with.
 FOLDERS = ("bin", "bench", "crates", "docs", "examples", "tools", ".ci")
 # Programs that are not of the project.
@@ -73,6 +83,29 @@ def commands(text):
     return found
 
 
+def sentences(text):
+    """The sentences of a page's prose and of the cells of its tables, in which a semicolon ends one too."""
+    for line in text.splitlines():
+        if line.startswith("    "):
+            continue
+        cells = line.split(" | ") if line.startswith("|") else [line]
+        ends = r"(?<=[.!?])[*)]*\s+(?=[A-Z`*(\[0-9\"])" + (r"|;\s" if line.startswith("|") else "")
+        for cell in cells:
+            yield from re.split(ends, cell.strip("| "))
+
+
+def words_of_code():
+    """All words of the crates, the scripts and the examples."""
+    found = set(re.findall(r"\w+", read("crates.txt")))
+    for pattern in ("crates/*/src/*.rt", "crates/*/specs/**/*.antt", "tools/**/*.py", "bench/**/*.py", "bin/*", "examples/**/*.md"):
+        for file in glob.glob(os.path.join(TOP, pattern), recursive=True):
+            if os.path.isfile(file):
+                found.update(re.findall(r"\w+", read(file)))
+    for name in os.listdir(os.path.join(TOP, "tools")):
+        found.update(re.findall(r"\w+", name))
+    return found
+
+
 def section(text, name):
     return text.split(f"\n## {name}\n", 1)[1].split("\n## ", 1)[0]
 
@@ -108,7 +141,7 @@ class Pages(unittest.TestCase):
         for page in sorted(glob.glob(os.path.join(TOP, "docs", "*.md"))):
             name = os.path.relpath(page, TOP)
             with self.subTest(page=name):
-                self.assertIn(name, linked | named)
+                self.assertTrue(name in linked | named, f"no page that README leads to names {name}")
 
     def test_files(self):
         """What is written like a file, or like a path of the repository."""
@@ -122,18 +155,63 @@ class Pages(unittest.TestCase):
 
     def test_crates(self):
         """`name` of `crate`, and whatever has a crate's form and is said to be one."""
-        for page in PAGES:
+        for page in ALL:
             for names, crate in re.findall(r"((?:`[\w:]+`(?:, | and )?)+) of `(\w+)`", read(page)):
                 with self.subTest(page=page, crate=crate):
                     folder = os.path.join(TOP, "crates", crate)
                     if not os.path.isdir(folder):
-                        self.assertIn(crate, named_in_code(), crate)
+                        self.assertTrue(crate in named_in_code() or crate[0].isupper(), crate)
                         continue
                     text = "".join(read(it) for kind in ("src/*.rt", "specs/*.antt") for it in glob.glob(os.path.join(folder, kind)))
                     for name in re.findall(r"`([\w:]+)`", names):
-                        self.assertTrue(re.search(rf"\b{name.rpartition('::')[2]}\b", text), f"{crate} has no {name}")
+                        path, _, last = name.rpartition("::")
+                        form = rf"\b(fn|mod) {last}\b" if path and last.islower() else rf"\b{last}\b"
+                        self.assertTrue(re.search(form, text), f"{crate} has no {name}")
         for crate in re.findall(r"`(\w+_(?:rows|tests))`", "".join(map(read, PAGES))):
             self.assertTrue(exists(f"crates/{crate}"), crate)
+
+    def test_words_of_the_code(self):
+        """What is written like a name of the code is one: no page speaks of code that is gone."""
+        known = words_of_code() | NO_WORDS
+        for page in OF_THE_CODE:
+            for word in quoted(read(page)):
+                if re.fullmatch(r"\w+(?:::\w+)*", word):
+                    missing = [it for it in word.split("::") if it not in known and not it.isdigit()]
+                    with self.subTest(page=page, word=word):
+                        self.assertEqual(missing, [])
+
+    def test_definitions(self):
+        """docs/definitions.md names files of specs/ that are there, and words that stand in them."""
+        for part in read("docs/definitions.md").split("\n## ")[1:]:
+            crates, files = re.findall(r"`(\w+)`", part.splitlines()[0]), []
+            for line in part.splitlines():
+                cells = line.strip("|").split(" | ")
+                if len(cells) != 4 and len(cells) != 3 or not line.startswith("| `") and not line.startswith("| | `"):
+                    continue
+                named = re.findall(r"`(\w+)`", cells[0])
+                files = [f"crates/{crate}/specs/{file}.antt" for crate in [it for it in named if exists(f"crates/{it}")] or crates
+                         for file in named if not exists(f"crates/{file}")] if named else files
+                there = [it for it in files if exists(it)]
+                with self.subTest(line=line[:100]):
+                    self.assertTrue(there, line)
+                    text = "".join(map(read, there))
+                    for word in re.findall(r"`(\w+)`", cells[1]):
+                        self.assertRegex(text, rf"(?<!\w){word}(?!\w)")
+
+    def test_sentences(self):
+        for page in SHORT:
+            for sentence in sentences(read(page)):
+                with self.subTest(page=page, sentence=sentence):
+                    self.assertLessEqual(len(re.findall(r"[\w`]\S*", sentence)), LONGEST_SENTENCE)
+
+    def test_numbers(self):
+        """Each number of README stands on another page or in the code."""
+        known = "".join(map(read, (it for it in ALL if it != "README.md"))) + limits_of_code()
+        text = re.sub(r"`[^`]*`|\]\([^)]*\)", "", "\n".join(it for it in read("README.md").splitlines() if not it.startswith("    ")))
+        for figure in sorted(figures(text)):
+            forms = (figure, figure.replace(",", "_"), figure.replace(",", ""))
+            with self.subTest(figure=figure):
+                self.assertTrue(any(re.search(rf"(?<![\d.,_]){re.escape(it)}(?![\d_]|[.,]\d)", known) for it in forms), figure)
 
     def test_commands(self):
         """Each command is there, and so are the files that it reads."""
@@ -173,8 +251,7 @@ class Pages(unittest.TestCase):
         for figure in re.findall(r"(\d+) minutes", section(text, "Quickstart")):
             if figure not in ("2", "4"):
                 with self.subTest(figure=figure):
-                    found = re.search(rf"`p4switch` {figure}\b|\b{figure} minutes", gate)
-                    self.assertTrue(found, f"docs/gate.md has no {figure} minutes")
+                    self.assertRegex(gate, rf"(?m)^\| .*minutes.* \| {figure} \|")
         known = read("docs/formats.md") + read("docs/programs.md") + limits_of_code()
         for figure in figures(section(text, "Limits")):
             with self.subTest(figure=figure):
@@ -187,15 +264,31 @@ class Pages(unittest.TestCase):
 
     def test_audit(self):
         """docs/audit.md shows the statement and the definitions as the code has them."""
-        ended = subprocess.run([sys.executable, "-B", os.path.join(HERE, "audit.py")], capture_output=True, check=False)
-        self.assertEqual((ended.returncode, ended.stderr.decode()), (0, ""))
+        self.assertEqual(told("audit.py"), "")
         self.assertNotIn("not told yet", read("docs/audit.md"))
 
-    def test_picture(self):
-        """docs/picture.svg is drawn of docs/picture.txt."""
-        drawn = subprocess.run([sys.executable, "-B", os.path.join(HERE, "picture.py"), os.path.join(TOP, "docs/picture.txt")],
-                               capture_output=True, check=True).stdout
-        self.assertEqual(drawn.decode(), read("docs/picture.svg"))
+    def test_pictures(self):
+        """docs/picture.svg is drawn of docs/picture.txt, and docs/map.svg of docs/map.txt."""
+        self.assertEqual(told("picture.py", os.path.join(TOP, "docs/picture.txt")), read("docs/picture.svg"))
+        self.assertEqual(told("layers.py"), read("docs/map.svg"))
+
+    def test_map(self):
+        """docs/map.md has each crate with the word of its layer."""
+        text = section(read("docs/map.md"), "The crates by layer, lowest first")
+        found = re.findall(r"^\| (\w+) \| `(\w+)` \|", text, re.M)
+        self.assertEqual(found, [(layer.word, crate) for layer in layers.layers() for crate in layer.crates])
+
+    def test_gate(self):
+        """docs/gate.md has each crate, and its sums and its longest chain are those of its table."""
+        self.assertEqual(told("gate.py"), "")
+
+
+def told(script, *words):
+    """What a script of this folder prints, where it ends well."""
+    ended = subprocess.run([sys.executable, "-B", os.path.join(HERE, script), *words], capture_output=True, check=False)
+    if ended.returncode:
+        raise AssertionError(f"{script}: {ended.stderr.decode()}")
+    return ended.stdout.decode()
 
 
 class Quickstart(unittest.TestCase):
@@ -267,7 +360,7 @@ def limits_of_code():
 
 def named_in_code():
     """Words of the code that may stand behind "of" and are no crate."""
-    return {"config", "standard_metadata", "ethernet"}
+    return {"config", "standard_metadata", "ethernet", "texts", "a"}
 
 
 if __name__ == "__main__":

@@ -381,14 +381,17 @@ class Passing(unittest.TestCase):
             time.sleep(0.01)
 
     def test_calls_behind_an_arbitration(self):
-        """What a client sends on its connection behind a message of its stream channel comes behind it, though it does
-        not wait for an answer."""
+        """What a client sends on its connection behind the answer to an arbitration comes behind that, on the connection to the
+        switch that its stream channel has."""
         door, wanted = self.door(), []
         for number in range(5):
+            self.switch.answers["stream"] = [[b"a%d" % number]]
             peer = frames.Connection(door.port)
             self.addCleanup(peer.close)
             peer.begin()
-            peer.say(peer.open_stream("StreamChannel"), b"s%d" % number)
+            channel = peer.open_stream("StreamChannel")
+            peer.say(channel, b"s%d" % number)
+            self.assertEqual(peer.messages(channel, 1, PATIENCE), [b"a%d" % number])
             peer.say(peer.open_stream("Write"), b"w%d" % number, frames.END_STREAM)
             wanted += [("stream", b"s%d" % number), ("write", b"w%d" % number)]
             self.await_asked(*wanted)

@@ -9,6 +9,8 @@ import sys
 import tempfile
 import unittest
 
+from p4tools import lab
+
 HERE = os.path.dirname(os.path.abspath(__file__))
 TOP = os.path.dirname(HERE)
 PROGRAM = os.path.join(TOP, "bin/p4lab")
@@ -23,6 +25,17 @@ print("words", *sys.argv[1:], flush=True)
 print("process", os.getpid(), flush=True)
 server.accept()
 time.sleep(%d)
+"""
+
+
+# Stands in place of a switch with its UDP port alone, and says how long its queue is once a line comes.
+QUEUE = """
+import socket, sys
+made = socket.socket(socket.AF_INET, socket.SOCK_DGRAM)
+made.bind(("127.0.0.1", int(sys.argv[1])))
+for _ in range(2):
+    print(made.getsockopt(socket.SOL_SOCKET, socket.SO_RCVBUF), flush=True)
+    sys.stdin.readline()
 """
 
 
@@ -101,6 +114,21 @@ class Lab(unittest.TestCase):
         self.assertEqual(words, f"words serve --port {self.port} --packets {self.packets} --workers 1 --device 7 --cpu 300 "
                                 "--rows 16384")
         self.assertFalse(os.path.exists(f"/proc/{process.split()[1]}"), "the switch is still there")
+
+    def test_queue(self):
+        """The queue of a switch's UDP port is made longer from outside of it, where the system lets it."""
+        made = subprocess.Popen([sys.executable, "-c", QUEUE, str(self.packets)], stdin=subprocess.PIPE, stdout=subprocess.PIPE,
+                                text=True, start_new_session=True)
+        for it in (made.stdin.close, made.stdout.close, made.wait, made.kill):
+            self.addCleanup(it)
+        before, found = int(made.stdout.readline()), lab.widen_queue(made.pid, self.packets)
+        made.stdin.write("\n")
+        made.stdin.flush()
+        behind = int(made.stdout.readline())
+        self.assertEqual(lab.widen_queue(os.getsid(0), self.packets), 0)
+        self.assertEqual(behind, found or before)
+        if os.geteuid() == 0:
+            self.assertGreaterEqual(found, lab.QUEUE)
 
     def test_a_switch_that_ends(self):
         made = self.start("false")

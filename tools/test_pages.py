@@ -106,10 +106,10 @@ class Great(WithBrowser):
             self.assertNotIn(word, text)
         self.assertEqual(self.ask("document.getElementById('figures').textContent"), "62 calls, 62 steps, 100,000 packets")
         self.assertLess(self.ask("document.querySelectorAll('*').length"), 3000)
+        # (the least of some, since a machine that has other work stops a picture on its way)
+        least = "Math.min(...Array.from({length: 9}, () => { const began = performance.now(); picture.draw(); return performance.now() - began; }))"
         for zoom in ("picture.fit()", "picture.zoom(0.5)", "picture.zoom(3.9)", "picture.zoom(34)"):
-            took = self.ask(f"{zoom}; const began = performance.now(); for (let n = 0; n < 5; n++) picture.draw(); (performance.now() - began) / 5"
-                            .replace("const ", "var "))
-            self.assertLess(took, 400, zoom)
+            self.assertLess(self.ask(f"{zoom}; {least}"), 400, zoom)
 
     def test_found(self):
         """Search and filters find what they name, in the numbers that the packets were made in."""
@@ -251,7 +251,11 @@ class Walks(WithBrowser):
         self.ask("window.dispatchEvent(new Event('afterprint'))")
         self.assertEqual(self.ask("document.documentElement.dataset.theme"), "dark")
         self.browser.media("print", "dark")
-        self.assertEqual(self.ask("getComputedStyle(byId('theme')).display"), "none")
+        for it in ("byId('theme')", "byId('detail')", "byId('search').parentElement"):
+            self.assertEqual(self.ask(f"getComputedStyle({it}).display"), "none")
+        self.ask("byId('search').value = 'port'; open(0)")
+        for it in ("byId('detail')", "byId('search').parentElement"):
+            self.assertNotEqual(self.ask(f"getComputedStyle({it}).display"), "none")
         self.assertTrue(self.browser.printed().startswith(b"%PDF"))
         self.browser.media()
 

@@ -1,10 +1,14 @@
-"""What bin/p4switch tells while crates are proved, by a command that only makes the marks of it."""
+"""What bin/p4switch tells while crates are proved, by a command that only makes the marks of it, and while a preview is compiled."""
 import contextlib
 import io
 import os
+import subprocess
+import sys
 import tempfile
 import unittest
+from unittest import mock
 
+import previewing
 import proving
 
 CRATES = """# the lowest
@@ -87,3 +91,42 @@ class Proving(unittest.TestCase):
         self.assertEqual(status, 4)
         self.assertIn("app: rt: low: waiting for another", told)
         self.assertIn("no proof", told)
+
+
+@unittest.skipUnless(os.path.exists("/proc/self/task"), "there is no /proc")
+class Previewing(unittest.TestCase):
+    """What is told while a preview is compiled, of a process that only starts what `rt try` would."""
+
+    def watched(self, script):
+        room = tempfile.TemporaryDirectory()
+        self.addCleanup(room.cleanup)
+        for name in ("program", "ld-linux-x86-64"):
+            os.symlink("/bin/sleep", os.path.join(room.name, name))
+        process = subprocess.Popen(["bash", "-c", script], cwd=room.name)
+        self.addCleanup(process.wait)
+        self.addCleanup(process.kill)
+        told = io.StringIO()
+        with contextlib.redirect_stderr(told), mock.patch.object(previewing, "TELL", 0.2), mock.patch.object(previewing, "LOOK", 0.05):
+            previewing.watch(process.pid)
+        return told.getvalue().splitlines()
+
+    def test_how_long_it_compiles(self):
+        for program in ("program", "ld-linux-x86-64"):
+            with self.subTest(program=program):
+                told = self.watched(f"sleep 1; (exec ./{program} 5); true")
+                self.assertTrue(told[0].startswith("p4switch: compiling for "), told)
+                self.assertRegex(told[-1], r"^p4switch: compiled in \d+ s$")
+                self.assertEqual(sum("compiled in" in it for it in told), 1)
+
+    def test_it_ends_with_the_process(self):
+        told = self.watched("sleep 1")
+        self.assertTrue(told)
+        self.assertTrue(all("compiling for" in it for it in told), told)
+
+    def test_a_process_that_is_gone(self):
+        process = subprocess.Popen([sys.executable, "-c", ""])
+        process.wait()
+        told = io.StringIO()
+        with contextlib.redirect_stderr(told):
+            previewing.watch(process.pid)
+        self.assertEqual(told.getvalue(), "")

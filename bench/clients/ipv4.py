@@ -1,9 +1,12 @@
 """Packets that the router of examples/programs takes, what it makes of them, and their datagrams."""
+import contextlib
 import ipaddress
 import socket
 
 ROUTER_MAC = bytes.fromhex("02000000000a")
 SENDER_MAC = bytes.fromhex("020000000001")
+# Python has no name for it.
+SO_RCVBUFFORCE = 33
 SENDER = ipaddress.ip_address("10.0.0.1").packed
 
 
@@ -44,7 +47,10 @@ class Network:
     def __init__(self, packets):
         self.entry = ("127.0.0.1", packets)
         self.socket = socket.socket(socket.AF_INET, socket.SOCK_DGRAM)
-        self.socket.setsockopt(socket.SOL_SOCKET, socket.SO_RCVBUF, 1 << 22)
+        # (the second is for root alone, and takes more than the system gives to all)
+        for option in (socket.SO_RCVBUF, SO_RCVBUFFORCE):
+            with contextlib.suppress(PermissionError):
+                self.socket.setsockopt(socket.SOL_SOCKET, option, 1 << 22)
         self.socket.bind(("127.0.0.1", packets + 1))
 
     def send(self, port, data):

@@ -21,6 +21,8 @@ IN_FLIGHT = 8
 PATIENCE = 20
 ECHO_REQUEST, ECHO_REPLY, OUTGOING = 8, 0, 4
 MARK = os.getpid() & 0xFFFF
+# The length of a socket's queue in bytes; Python has no name for the option.
+QUEUE, SO_RCVBUFFORCE = 1 << 22, 33
 
 
 def ready():
@@ -50,10 +52,19 @@ def echo_request(number):
     return head[:2] + struct.pack("!H", sum_of(head + data)) + head[4:] + data
 
 
+def widen(link):
+    """A queue of QUEUE bytes for a socket, which the namespace's own root may have, also where that is more than the system
+    gives to all."""
+    try:
+        link.setsockopt(socket.SOL_SOCKET, SO_RCVBUFFORCE, QUEUE)
+    except PermissionError:
+        link.setsockopt(socket.SOL_SOCKET, socket.SO_RCVBUF, QUEUE)
+
+
 def ping(address):
     """Keeps IN_FLIGHT requests on their way. One that is not answered in time is lost."""
     link = socket.socket(socket.AF_INET, socket.SOCK_RAW, socket.IPPROTO_ICMP)
-    link.setsockopt(socket.SOL_SOCKET, socket.SO_RCVBUF, 1 << 22)
+    widen(link)
     waiting, sent, answered, is_ending = {}, 0, 0, False
     ready()
     while waiting or not is_ending:
@@ -76,7 +87,7 @@ def watch(*interfaces):
     links, counts = {}, {}
     for name in interfaces:
         link = socket.socket(socket.AF_PACKET, socket.SOCK_RAW, 0)
-        link.setsockopt(socket.SOL_SOCKET, socket.SO_RCVBUF, 1 << 22)
+        widen(link)
         link.bind((name, 0x0003))
         links[link] = name
     ready()

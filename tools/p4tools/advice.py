@@ -47,7 +47,7 @@ def of_call(method, code, message=""):
     its Status."""
     if code == 14:
         return [rules.TO_DO_MEMORY]
-    if message in rules.CONFIG:
+    if rules.of_config(message):
         return [rules.TO_DO_CONFIG]
     name = code_name(code)
     if name == "NOT_FOUND" and method != "read":

@@ -7,7 +7,7 @@ import sys
 from google.protobuf.message import DecodeError
 
 from p4tools import captures, difference, draw, explaining, packets, page, report, scenario, spell, stf, suite, tape, told
-from p4tools.files import bytes_of as _bytes_of, names_of as _names_of, tell as _tell
+from p4tools.files import bytes_of as _bytes_of, make_folder, names_of as _names_of, tell as _tell, write_bytes
 from p4tools.messages import Config, PacketIn, parse
 from p4tools.names import read_info
 from p4tools.trouble import Progress, Trouble
@@ -78,7 +78,8 @@ def _p4tape_words():
 
 def _p4config_words():
     parser = argparse.ArgumentParser(
-        prog="p4config", description="Writes the ForwardingPipelineConfig that `p4switch check` reads.")
+        prog="p4config", description="Writes the ForwardingPipelineConfig that `p4switch check` reads.",
+        epilog="p4config draw P4INFO JSON -o OUT.svg draws the program; p4config draw --help has its words.")
     parser.add_argument("info", metavar="P4INFO", help="in text or wire form, as the P4 compiler writes it")
     parser.add_argument("json", metavar="JSON", nargs="?", help="the device configuration, as the P4 compiler writes it "
                         "for BMv2")
@@ -124,10 +125,9 @@ def _show_tape(given, data):
         progress.at(at)
     progress.end()
     if given.files:
-        os.makedirs(given.files, exist_ok=True)
+        make_folder(given.files)
         for name, content in files.items():
-            with open(os.path.join(given.files, name), "wb") as it:
-                it.write(content)
+            write_bytes(os.path.join(given.files, name), content)
     if wrong:
         raise Trouble(f"{given.file}: {wrong}; what stands before it is shown")
     return MADE

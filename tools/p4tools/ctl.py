@@ -6,6 +6,7 @@ import socket
 import time
 
 from p4tools import advice, packets, rules, tape, told
+from p4tools.files import stored
 from p4tools.hints import of_update
 from p4tools.live import Answer, Link, NoSwitch, place_of
 from p4tools.messages import (Any, GetRequest, GetResponse, ReadRequest, ReadResponse, SetRequest, Status,
@@ -60,17 +61,10 @@ class Session:
         self.own, self.chosen = set(), {}
         self.has_names, self.names_are_given = False, False
         self.hinted = []
-        self.maker = Maker(self._read_file, note=self.hinted.append)
+        self.maker = Maker(lambda name: stored(os.path.join(folder, name), name), note=self.hinted.append)
         for lane in range(LANES):
             self.maker.speaker(lane).device, self.maker.speaker(lane).role = options.device, options.role
         self.speller, self.beside = Speller(), told.Beside()
-
-    def _read_file(self, name):
-        try:
-            with open(os.path.join(self.folder, name), "rb") as it:
-                return it.read()
-        except OSError as error:
-            raise Trouble(f"{name} is not read: {error.strerror}") from None
 
     # Lines.
 
@@ -81,6 +75,8 @@ class Session:
             yield from self.send(self.maker.take(line))
             return
         lane, rest = lane_of(words)
+        if lane and int(lane[1:]) >= LANES:
+            raise Trouble(f"there is no controller lane {lane}; they are c0 to c{LANES - 1}")
         if not rest:
             return
         if rest[0] not in VERBS and rest[0] not in UPDATES:
@@ -374,7 +370,7 @@ class Session:
                 self.note(text)
         if answer.code:
             message = parse(Status, answer.messages[0]).message if answer.messages else ""
-            return lines + self._words_of_switch(answer) + [f"    {it}" for it in advice.of_call(method, answer.code, message)]
+            return lines + self._words_of_switch(method, answer) + [f"    {it}" for it in advice.of_call(method, answer.code, message)]
         return lines
 
     def _tell_updates(self, record, shown, call, lines):
@@ -396,16 +392,17 @@ class Session:
         is_whole = any(it.canonical_code == 10 for it in errors)
         return made + ["    nothing of the batch was done"] * is_whole
 
-    def _words_of_switch(self, answer):
-        """What the switch or what stands in front of it says by itself, where that is no rule's name."""
+    def _words_of_switch(self, method, answer):
+        """What the switch or what stands in front of it says by itself, where that is told nowhere else."""
         message = parse(Status, answer.messages[0]).message if answer.messages else ""
-        return [f"    {message}"] * bool(message and message not in rules.CONFIG)
+        is_told = rules.of_config(message) or message == rules.NO_MEMORY or message == rules.WHOLE.get((method, code_name(answer.code)), "")
+        return [f"    {message}"] * (not is_told)
 
     def whole(self, method, title, answer):
         """The lines of a call that is refused whole and that no line of the user's made."""
         message = parse(Status, answer.messages[0]).message if answer.messages else ""
         name = code_name(answer.code)
-        reason = rules.CONFIG.get(message) or message or rules.WHOLE.get((method, name), "")
+        reason = rules.CONFIG.get(rules.of_config(message)) or message or rules.WHOLE.get((method, name), "")
         head = f"{title}: {name}" + f" ({reason})" * bool(reason)
         return [head] + [f"    {it}" for it in advice.of_call(method, answer.code, message)]
 

@@ -132,6 +132,7 @@ SIMPLE = {
     "arbitrate": lambda names: ["election="], "as": lambda names: ["device=", "election=", "role="],
     "listen": lambda names: ["count=", "seconds="],
     "packet": lambda names: ["port="], "pcap": lambda names: ["port="],
+    "multicast": lambda names: ["insert ", "modify ", "delete "],
     "raw": lambda names: ["write ", "read ", "set ", "get ", "stream ", "capabilities "],
 }
 

@@ -34,6 +34,8 @@ HELP = {
                "delete ipv4_lpm dst=10.1.0.0/16"),
     "batch": ("batch [ATOMICITY]", "updates up to `end`, in one Write: continue_on_error, rollback_on_error or "
               "dataplane_atomic", "batch dataplane_atomic"),
+    "multicast": ("multicast [insert | modify | delete] GROUP [replicas=PORT:INSTANCE,..]", "a multicast group, as insert "
+                  "multicast_group_entry", "multicast 7 replicas=1:0,3:1"),
     "read": ("read ENTITY, or read, entities, end", "what the switch has, asked for by the words of an entity",
              "read ipv4_lpm"),
     "packet_out": ("packet_out [FIELD=VALUE ..] HEX", "a packet of the controller, which enters at the CPU port",
@@ -65,8 +67,10 @@ ENTITIES = {
     "a match": "dst=10.1.0.0/16 (lpm), a=0xa0&&&0xf0 (ternary), port=1..3 (range), dst=7 (exact, optional)",
     "a value": "7, 0x07, 10.1.0.0, 02:00:00:00:00:03, an IPv6 address, or bytes:0007 for the very bytes",
 }
-# Lines of a tape that mean nothing to a live switch.
-NOT_LIVE = {"meet": "on a live switch each line waits for its answer, so there is nothing to meet",
+# Lines of a scenario that mean nothing to a live switch.
+TESTED = "what must come is tested by `bin/p4tape test FILE`, and `play FILE` passes over it"
+NOT_LIVE = {"expect": TESTED, "strict": TESTED, "queued": TESTED, "start": "the switch runs already; `bin/p4tape test FILE` starts one",
+            "meet": "on a live switch each line waits for its answer, so there is nothing to meet",
             "bytes": "a client's bytes are played by `bin/p4switch replay`; to a live switch calls are made",
             "include": "write play FILE in place of include FILE"}
 
@@ -97,23 +101,33 @@ def lines_of(words):
 
 def take(session, line):
     """Does what a line says; gives what it tells."""
-    words = cut(line)
+    lane, words = lane_of(cut(line))
     if session.maker.block or not words:
         yield from session.take(line)
         return
     verb = words[0]
+    if verb in NOT_LIVE:
+        raise Trouble(f"{verb} has no place here: {NOT_LIVE[verb]}")
+    if lane and (verb in OWN or verb == "help"):
+        raise Trouble(f"{verb} is of no controller: leave {lane} out")
     if verb == "help":
         yield from tell_help(words[1:])
     elif verb in OWN:
         yield from OWN[verb](session, words[1:])
-    elif verb in NOT_LIVE:
-        raise Trouble(f"{verb} has no place here: {NOT_LIVE[verb]}")
-    elif verb in VERBS or verb in UPDATES or lane_of(words)[0]:
-        yield from session.take(line)
     elif verb == "multicast":
-        raise Trouble("write insert multicast_group_entry GROUP replicas=PORT:INSTANCE,..")
+        yield from session.take(f"{lane or ''} {multicast(words[1:])}")
+    elif verb in VERBS or verb in UPDATES:
+        yield from session.take(line)
     else:
         raise Trouble(no_line(verb, HELP))
+
+
+def multicast(words):
+    """The line of an update that `multicast` stands for."""
+    verb, *rest = words if words[:1] and words[0] in UPDATES else ["insert", *words]
+    if not rest:
+        raise Trouble(f"a group is missing; write {HELP['multicast'][0]}")
+    return " ".join([verb, "multicast_group_entry", *rest])
 
 
 def tell_help(words):

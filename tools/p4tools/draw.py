@@ -108,7 +108,9 @@ def dot_of(graph, names, way, title):
 
 
 def _cluster(name, title, inside):
-    return [f"subgraph {_quoted('cluster ' + name)} {{", f'label={_quoted(title)}; labeljust=l; color="#c8d0d9"; style=rounded;', *inside, "}"]
+    # (with less of a margin the edges would run through the label)
+    look = 'labeljust=l; fontsize=12; margin=24; color="#c8d0d9"; style=rounded;'
+    return [f"subgraph {_quoted('cluster ' + name)} {{", f"label={_quoted(title)}; {look}", *inside, "}"]
 
 
 def _quoted(text):

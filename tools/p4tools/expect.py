@@ -1,7 +1,7 @@
 """What a scenario says must come: its lines `expect`, `strict`, `queued` and `start`, each with its place.
 verdict.py holds them against a report."""
 import re
-from typing import NamedTuple
+from typing import NamedTuple, Optional
 
 from google.protobuf.message import DecodeError
 
@@ -102,7 +102,7 @@ class Verdict(NamedTuple):
     text: str
     is_met: bool
     lines: list = []
-    instead: list = None
+    instead: Optional[list] = None
     behind: list = []
 
 

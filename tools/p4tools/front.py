@@ -11,6 +11,7 @@ import sys
 import grpc
 
 from p4tools import front_words
+from p4tools.files import stored
 from p4tools.front_change import Devices, read_pairs
 from p4tools.front_connections import Connections
 from p4tools.front_links import OK, Switch
@@ -108,8 +109,8 @@ def credentials(given):
         return None
     if not given.cert or not given.key:
         raise Trouble("--cert and --key go together: give both")
-    files = [_bytes_of(option, it) for option, it in (("--key", given.key), ("--cert", given.cert))]
-    authority = _bytes_of("--client-ca", given.client_ca) if given.client_ca else None
+    files = [stored(it, f"{option} {it}") for option, it in (("--key", given.key), ("--cert", given.cert))]
+    authority = stored(given.client_ca, f"--client-ca {given.client_ca}") if given.client_ca else None
     context = ssl.SSLContext(ssl.PROTOCOL_TLS_SERVER)
     try:
         context.load_cert_chain(given.cert, given.key, password=lambda: "")
@@ -131,14 +132,6 @@ REASONS = {"KEY_VALUES_MISMATCH": "the key is that of another certificate", "PEM
 def _reason(error):
     reason = getattr(error, "reason", None) or str(error)
     return REASONS.get(reason, reason)
-
-
-def _bytes_of(option, file):
-    try:
-        with open(file, "rb") as it:
-            return it.read()
-    except OSError as error:
-        raise Trouble(f"{option} {file} is not read: {error.strerror}") from None
 
 
 def try_port(option, family, address, port):

@@ -9,7 +9,6 @@ OK, UNKNOWN, ABORTED, UNAVAILABLE = 0, 2, 10, 14
 SPACE = "p4switch"
 # The trailers of a call that a client takes where it has set nothing (gRPC's own default), in bytes.
 TRAILERS = 8192
-NO_MEMORY = "the switch has no memory for this; it changed nothing"
 OF_A_BATCH = "not done, as another update of the batch is refused"
 NO_SUCH_MESSAGE = "a message of this kind is not served"
 
@@ -28,7 +27,7 @@ def of_whole(method, code, message=""):
     if message:
         return f"{message}: {rules.CONFIG[message]}" if message in rules.CONFIG else message
     if code == UNAVAILABLE:
-        return NO_MEMORY
+        return rules.NO_MEMORY
     return rules.WHOLE.get((method, code_name(code)), "")
 
 

@@ -13,6 +13,7 @@ import sys
 import threading
 import time
 
+from p4tools.files import stored
 from p4tools.messages import Config, SetRequest, SetResponse, StreamRequest, StreamResponse, code_name, parse
 from p4tools.names import read_info
 from p4tools.trouble import Trouble
@@ -24,6 +25,8 @@ P4INFO_ENDS = (".p4info.txt", ".p4info.txtpb", ".p4.p4info.txt", ".p4.p4info.txt
 # The least election id, so that whoever comes behind may be primary with any.
 ELECTION, VERIFY_AND_COMMIT = 1, 3
 SERVICE = "/p4.v1.P4Runtime/"
+# What is asked of the system for the queue of the switch's UDP port, in bytes. Python has no names for these.
+QUEUE, SO_RCVBUFFORCE, PIDFD_GETFD = 8 << 20, 33, 438
 # How long a switch is waited for, in seconds, for its start (a build may come first) and for an answer.
 START, PATIENCE = 4 * 3600, 600
 # Words of BMv2 that have nothing to stand for here, and how many words follow each.
@@ -122,14 +125,6 @@ def _read_words(words):
 
 # The program.
 
-def _bytes_of(file):
-    try:
-        with open(file, "rb") as it:
-            return it.read()
-    except OSError as error:
-        raise Trouble(f"{file} is not read: {error.strerror}") from None
-
-
 def find_p4info(program):
     """The P4Info beside a program, by its name."""
     stem = program[:-len(".json")] if program.endswith(".json") else program
@@ -143,10 +138,10 @@ def find_p4info(program):
 def read_config(program, p4info=None):
     """The configuration of a JSON and its P4Info."""
     info_file = p4info or find_p4info(program)
-    info, note = read_info(_bytes_of(info_file), info_file)
+    info, note = read_info(stored(info_file), info_file)
     if note:
         print(f"p4lab: note: {note}", file=sys.stderr)
-    return Config(p4info=info, p4_device_config=_bytes_of(program))
+    return Config(p4info=info, p4_device_config=stored(program))
 
 
 def load(port, device, config):
@@ -240,6 +235,44 @@ def _wait_for_switch(switch, port):
     raise Trouble(f"the switch does not serve, its status is {switch.process.poll()}")
 
 
+# The queue of the switch's UDP port.
+
+def _inodes_at(port):
+    """What the sockets at a UDP port of 127.0.0.1 are called under /proc."""
+    with open("/proc/net/udp", encoding="ascii") as it:
+        rows = [line.split() for line in it.readlines()[1:]]
+    return {f"socket:[{row[9]}]" for row in rows if row[1] == f"0100007F:{port:04X}"}
+
+
+def _files_of(session):
+    """The open files of the processes of a session: process, number, and what each is."""
+    for process in filter(str.isdigit, os.listdir("/proc")):
+        with contextlib.suppress(OSError):
+            if os.getsid(int(process)) == session:
+                for file in os.listdir(f"/proc/{process}/fd"):
+                    yield int(process), int(file), os.readlink(f"/proc/{process}/fd/{file}")
+
+
+def widen_queue(session, port):
+    """Makes the queue of the UDP port of a session's process QUEUE bytes long, or as long as this process may; gives its length,
+    0 where the system lets this process not at it."""
+    wanted, library = _inodes_at(port), ctypes.CDLL(None, use_errno=True)
+    for process, file, what in _files_of(session):
+        if what not in wanted:
+            continue
+        with contextlib.suppress(OSError):
+            found = library.syscall(PIDFD_GETFD, handle := os.pidfd_open(process), file, 0)
+            os.close(handle)
+            if found < 0:
+                continue
+            with socket.socket(fileno=found) as it:
+                for option in (socket.SO_RCVBUF, SO_RCVBUFFORCE):
+                    with contextlib.suppress(OSError):
+                        it.setsockopt(socket.SOL_SOCKET, option, QUEUE)
+                return it.getsockopt(socket.SOL_SOCKET, socket.SO_RCVBUF)
+    return 0
+
+
 def _switch_words(given):
     """What is run for the switch: SWITCH in place of bin/p4switch, where that is set."""
     first = shlex.split(os.environ.get("SWITCH", "")) or [os.path.join(BIN, "p4switch")]
@@ -291,9 +324,11 @@ def _lab(given, config, log, stack):
         return parts[-1]
 
     try:
-        _wait_for_switch(start("the switch", _switch_words(given)), given.grpc_server_addr)
+        _wait_for_switch(switch := start("the switch", _switch_words(given)), given.grpc_server_addr)
         if config:
             load(given.grpc_server_addr, given.device_id, config)
+        if given.interface:
+            widen_queue(switch.process.pid, given.packets)
         if given.interface and start("p4ports", _ports_words(given)).told.get() is None:
             raise Trouble("p4ports ended by itself")
         signal.signal(signal.SIGUSR1, lambda *_: [os.kill(it.process.pid, signal.SIGUSR1) for it in parts[1:]])

@@ -7,6 +7,8 @@ from typing import NamedTuple
 
 import grpc
 
+from p4tools import rules
+from p4tools.files import stored
 from p4tools.messages import Status
 from p4tools.trouble import Trouble
 
@@ -87,7 +89,7 @@ class Link:
         if error.code() == grpc.StatusCode.DEADLINE_EXCEEDED:
             raise NoSwitch(f"{self.place} took the connection and gave no answer in {self.patience} seconds; "
                            "a switch serves 32 connections at once, and others wait")
-        if details is None and text and error.code() in (grpc.StatusCode.UNAVAILABLE, grpc.StatusCode.INTERNAL):
+        if details is None and text not in ("", rules.NO_MEMORY) and error.code() in (grpc.StatusCode.UNAVAILABLE, grpc.StatusCode.INTERNAL):
             raise NoSwitch(f"the connection to {self.place} broke: {text}")
         return Answer(code, [details if details is not None else Status(code=code, message=text).SerializeToString()])
 
@@ -151,17 +153,9 @@ class Link:
 def _channel(target, keys):
     if not any(keys):
         return grpc.insecure_channel(target, options=OPTIONS)
-    files = [_content(it) if it else None for it in keys]
+    files = [stored(it) if it else None for it in keys]
     try:
         credentials = grpc.ssl_channel_credentials(files[0], files[2], files[1])
     except ValueError as error:
         raise Trouble(f"the certificates are not taken: {error}") from None
     return grpc.secure_channel(target, credentials, options=OPTIONS)
-
-
-def _content(file):
-    try:
-        with open(file, "rb") as it:
-            return it.read()
-    except OSError as error:
-        raise Trouble(f"{file} is not read: {error.strerror}") from None

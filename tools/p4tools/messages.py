@@ -1,6 +1,8 @@
 """The message classes of P4Runtime 1.3.0, P4Info and google.rpc.Status, made from protos/."""
 import os
 import warnings
+from collections.abc import Iterable
+from typing import Any as Anything
 
 from google.protobuf import descriptor_pool, message_factory
 from google.protobuf.message import DecodeError
@@ -10,25 +12,25 @@ from p4tools.protofile import read_proto
 PROTOS = os.path.join(os.path.dirname(os.path.abspath(__file__)), "protos")
 
 
-def proto(name):
+def proto(name: str) -> Anything:
     """The FileDescriptorProto of a file of protos/."""
     with open(os.path.join(PROTOS, name), encoding="utf-8") as it:
         return read_proto(name, it.read())
 
 
-def classes(files):
+def classes(files: Iterable[Anything]) -> dict[str, Anything]:
     """The classes of FileDescriptorProtos, those that they import first, by their full names."""
     pool = descriptor_pool.DescriptorPool()
     for file in files:
         pool.Add(file)
-    made = {}
+    made: dict[str, Anything] = {}
     for file in files:
         for message in pool.FindFileByName(file.name).message_types_by_name.values():
             made[message.full_name] = _class_of(pool, message)
     return made
 
 
-def _class_of(pool, message):
+def _class_of(pool: Anything, message: Anything) -> Anything:
     """message_factory's name for this changed with the library's releases."""
     if hasattr(message_factory, "GetMessageClass"):
         return message_factory.GetMessageClass(message)
@@ -66,7 +68,7 @@ CODES = {0: "OK", 1: "CANCELLED", 2: "UNKNOWN", 3: "INVALID_ARGUMENT", 5: "NOT_F
          13: "INTERNAL", 14: "UNAVAILABLE"}
 
 
-def parse(kind, data):
+def parse(kind: Anything, data: bytes) -> Anything:
     """The message of a kind that bytes are, or a DecodeError."""
     with warnings.catch_warnings(record=True) as told:
         warnings.simplefilter("always")
@@ -76,17 +78,17 @@ def parse(kind, data):
     return made
 
 
-def code_name(code):
+def code_name(code: int) -> str:
     """A canonical code in words."""
     return CODES.get(code, f"code {code}")
 
 
-def number_of(uint128):
+def number_of(uint128: Anything) -> int:
     """An election id as one number."""
     return uint128.high << 64 | uint128.low
 
 
-def set_number(uint128, number):
+def set_number(uint128: Anything, number: int) -> None:
     """Sets an election id, which is given also where it is 0."""
     uint128.SetInParent()
     uint128.high, uint128.low = number >> 64, number & (1 << 64) - 1

@@ -4,6 +4,7 @@ import io
 import logging
 import os
 
+from p4tools.files import make_folder, write_bytes
 from p4tools.trouble import Trouble
 
 logging.getLogger("scapy").setLevel(logging.ERROR)
@@ -69,8 +70,9 @@ def _time(told, unit):
 
 def write_pcap(folder, name, packets):
     """Writes packets as folder/name, a microsecond apart, so that the same packets make the same file."""
-    os.makedirs(folder, exist_ok=True)
+    make_folder(folder)
     path = os.path.join(folder, name)
+    write_bytes(path, b"")
     with _scapy()[1].RawPcapWriter(path, linktype=ETHERNET) as writer:
         writer.write_header(None)
         for number, data in enumerate(packets):

@@ -1,5 +1,6 @@
 """Reads the part of the .proto language that the files in protos/ are written in."""
 import re
+from typing import Any
 
 from google.protobuf import descriptor_pb2
 
@@ -10,7 +11,7 @@ SCALARS = {"bool": Field.TYPE_BOOL, "bytes": Field.TYPE_BYTES, "string": Field.T
 TOKEN = re.compile(r'"[^"]*"|[\w.]+|[{}=;]')
 
 
-def read_proto(name, text):
+def read_proto(name: str, text: str) -> Any:
     """The FileDescriptorProto of a .proto text."""
     file = descriptor_pb2.FileDescriptorProto(name=name)
     words = TOKEN.findall(re.sub(r"//.*", "", text))
@@ -32,12 +33,12 @@ def read_proto(name, text):
     return file
 
 
-def _expect(words, wanted):
+def _expect(words: list[str], wanted: str) -> None:
     if words.pop() != wanted:
         raise ValueError(f"{wanted!r} is missing")
 
 
-def _after_equals(words):
+def _after_equals(words: list[str]) -> str:
     """Takes `= VALUE ;` and gives the value."""
     _expect(words, "=")
     value = words.pop()
@@ -45,7 +46,7 @@ def _after_equals(words):
     return value
 
 
-def _read_message(words, message):
+def _read_message(words: list[str], message: Any) -> None:
     message.name = words.pop()
     _expect(words, "{")
     while (word := words.pop()) != "}":
@@ -59,14 +60,14 @@ def _read_message(words, message):
             _read_field(words, message, word)
 
 
-def _read_enum(words, enum):
+def _read_enum(words: list[str], enum: Any) -> None:
     enum.name = words.pop()
     _expect(words, "{")
     while (word := words.pop()) != "}":
         enum.value.add(name=word, number=int(_after_equals(words)))
 
 
-def _read_choice(words, message):
+def _read_choice(words: list[str], message: Any) -> None:
     index = len(message.oneof_decl)
     message.oneof_decl.add(name=words.pop())
     _expect(words, "{")
@@ -74,7 +75,7 @@ def _read_choice(words, message):
         _read_field(words, message, word).oneof_index = index
 
 
-def _read_field(words, message, word):
+def _read_field(words: list[str], message: Any, word: str) -> Any:
     """Takes `[repeated] TYPE NAME = NUMBER ;`. A type that is no scalar is left to be resolved by its name."""
     field = message.field.add(label=Field.LABEL_OPTIONAL)
     if word == "repeated":

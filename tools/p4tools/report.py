@@ -1,6 +1,7 @@
 """Reports as text: their lines read into calls, packets and counts."""
 import re
-from typing import NamedTuple
+from collections.abc import Callable
+from typing import NamedTuple, Optional
 
 from p4tools.trouble import Trouble
 
@@ -20,11 +21,11 @@ class Call(NamedTuple):
     """A call of the journal with what it made: steps, notices by lane, and its reply."""
     lane: int
     number: int
-    steps: list
-    notices: list
+    steps: list[Step]
+    notices: list[tuple[int, bytes]]
     steps_so_far: int
     code: int
-    messages: list
+    messages: list[bytes]
 
 
 class Packet(NamedTuple):
@@ -34,23 +35,28 @@ class Packet(NamedTuple):
     number: int
     after: int
     fate: str
-    outputs: list
-    cpu: list
-    digest: tuple
-    hits: list
+    outputs: list[tuple[int, bytes]]
+    cpu: list[tuple[str, bytes]]
+    digest: Optional[tuple[str, bytes]]
+    hits: list[str]
 
 
 class Report:
     """A report, or that of one device where it tells of several."""
 
-    def __init__(self, device=None):
+    def __init__(self, device: Optional[int] = None) -> None:
         self.device = device
-        self.calls, self.packets, self.counts, self.cells = [], [], [], []
-        self.sent, self.end = {}, None
-        self.steps, self.notices = [], []
+        self.calls: list[Call] = []
+        self.packets: list[Packet] = []
+        self.counts: list[tuple[int, ...]] = []
+        self.cells: list[tuple[int, ...]] = []
+        self.sent: dict[int, bytes] = {}
+        self.end: Optional[tuple[int, int]] = None
+        self.steps: list[Step] = []
+        self.notices: list[tuple[int, bytes]] = []
 
 
-def read_reports(text, file):
+def read_reports(text: str, file: str) -> list[Report]:
     """The reports of a text: one, or one for each device."""
     reports = [Report()]
     for number, line in enumerate(text.splitlines(), 1):
@@ -69,29 +75,29 @@ def read_reports(text, file):
     return whole
 
 
-def _bytes(word):
+def _bytes(word: str) -> bytes:
     return b"" if word == "." else bytes.fromhex(word)
 
 
-def _list(word):
+def _list(word: str) -> list[str]:
     return [] if word == "-" else word.split(",")
 
 
-def _pairs(word):
+def _pairs(word: str) -> list[tuple[str, bytes]]:
     return [(left, _bytes(right)) for left, right in (it.split(":") for it in _list(word))]
 
 
-def _step(report, words):
+def _step(report: Report, words: list[str]) -> None:
     number, lane, call, kind, changes = words
     int(lane), int(call)
     report.steps.append(Step(int(number), kind, int(changes)))
 
 
-def _notice(report, words):
+def _notice(report: Report, words: list[str]) -> None:
     report.notices.append((int(words[0]), _bytes(words[1])))
 
 
-def _reply(report, words):
+def _reply(report: Report, words: list[str]) -> None:
     lane, number, steps, code, messages = words
     call = Call(int(lane), int(number), report.steps, report.notices, int(steps), int(code),
                 [_bytes(it) for it in _list(messages)])
@@ -99,7 +105,7 @@ def _reply(report, words):
     report.steps, report.notices = [], []
 
 
-def _packet(report, words):
+def _packet(report: Report, words: list[str]) -> None:
     who, number, after, fate, outputs, cpu, digest, hits = words
     sample, ins, found = _pairs(digest), _pairs(cpu), _list(hits)
     is_well = [fate in FATES, re.fullmatch(r"[wc]\d+", who), all(re.fullmatch(r"\d+:\d+|@\d+", it) for it in found),
@@ -111,25 +117,25 @@ def _packet(report, words):
                                  sample[0] if sample else None, found))
 
 
-def _count(report, words):
+def _count(report: Report, words: list[str]) -> None:
     report.counts.append(tuple(map(int, words)))
     if len(words) != 4:
         raise ValueError(words)
 
 
-def _cell(report, words):
+def _cell(report: Report, words: list[str]) -> None:
     report.cells.append(tuple(map(int, words)))
     if len(words) != 5:
         raise ValueError(words)
 
 
-def _sent(report, words):
+def _sent(report: Report, words: list[str]) -> None:
     report.sent[int(words[0])] = _bytes(words[1])
 
 
-def _end(report, words):
+def _end(report: Report, words: list[str]) -> None:
     report.end = (int(words[0]), int(words[1]))
 
 
-READERS = {"step": _step, "notice": _notice, "reply": _reply, "packet": _packet, "count": _count,
+READERS: dict[str, Callable[[Report, list[str]], None]] = {"step": _step, "notice": _notice, "reply": _reply, "packet": _packet, "count": _count,
            "cell": _cell, "sent": _sent, "end": _end}

@@ -33,6 +33,7 @@ WHOLE = {
     ("set", "INVALID_ARGUMENT"): "the message is not read, or its action and its config do not go together",
     ("set", "FAILED_PRECONDITION"): "no program is saved, or the entries have no place in the new one",
     ("set", "RESOURCE_EXHAUSTED"): "no room for its counters",
+    ("set", "UNIMPLEMENTED"): "this action is not served",
     ("get", "NOT_FOUND"): "no such device",
     ("get", "INVALID_ARGUMENT"): "the message is not read, or asks for an unknown part",
     ("stream", "NOT_FOUND"): "no such device",
@@ -40,6 +41,7 @@ WHOLE = {
     ("stream", "INVALID_ARGUMENT"): "the message is not read, another session of the role bears this election id, "
                                     "or the role's configuration is not served",
     ("stream", "RESOURCE_EXHAUSTED"): "too many sessions or roles"}
+NO_MEMORY = "the switch has no memory for this; it changed nothing"
 CONFIG = {
     "I1": "the config or its P4Info is not read",
     "I2": "an id is 0 or stands twice",
@@ -67,6 +69,12 @@ CONFIG = {
     "L15": "standard_metadata.egress_spec is not 9 bits wide"}
 
 
+def of_config(message):
+    """The rule of a configuration that the message of a Status names, alone or before its words; empty where it names none."""
+    rule = message.partition(":")[0]
+    return rule if rule in CONFIG else ""
+
+
 def of_update(code, number):
     """The rule of an update that is refused, in words."""
     if number == 10:
@@ -77,7 +85,7 @@ def of_update(code, number):
 # What to do about a refusal, a sentence each.
 TO_DO_UPDATE = {
     1: "begin the line with insert, modify or delete, and name an entity",
-    2: "leave it out: meters, counters and idle timeouts are not written here, nor are members watched",
+    2: "leave it out: meters, counters, idle timeouts and multicast groups are not written here, nor are members watched",
     3: "`program ids` lists what the program has",
     4: "name it among the ids of the role (`arbitrate election=N role=N ids=NAME,..`), or write as a role without a list",
     5: "the program fixes it, so only another program changes it; a default action is changed by modify alone",

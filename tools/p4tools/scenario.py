@@ -7,6 +7,7 @@ from google.protobuf.message import DecodeError
 from p4tools import hints, packets, tape
 from p4tools.entities import read_entity
 from p4tools.expect import Watch
+from p4tools.files import stored
 from p4tools.messages import (Config, GetRequest, ReadRequest, SetRequest, StreamRequest, Update,
                               WriteRequest, parse, set_number)
 from p4tools.names import Names, part, read_info
@@ -378,11 +379,9 @@ def make_watched(path, note, progress=None, names=None, took=None):
 
     def read_file(name):
         try:
-            with open(os.path.join(os.path.dirname(place[0]), name), "rb") as it:
-                return it.read()
-        except OSError as error:
-            raise Trouble(f"{name} is not read: {error.strerror}; "
-                          "a file is looked for from the scenario's own folder") from None
+            return stored(os.path.join(os.path.dirname(place[0]), name), name)
+        except Trouble as trouble:
+            raise Trouble(f"{trouble}; a file is looked for from the scenario's own folder") from None
 
     maker = Maker(read_file, names, note=lambda text: note(f"{place[0]}:{place[1]}: note: {text}"))
     records, wrong, lanes = [], [], tape.Lanes()

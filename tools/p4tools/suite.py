@@ -163,9 +163,7 @@ def _updated(result, switch):
     if all(it.is_met for it in result.verdicts):
         return result
     for file, lines in sorted(_edits(result.verdicts).items()):
-        with open(file, encoding="utf-8") as it:
-            old = it.read().splitlines()
-        write_text(file, "\n".join(_edited(old, lines)) + "\n")
+        write_text(file, "\n".join(_edited(text_of(file).splitlines(), lines)) + "\n")
         tell(f"{file}: {told.counted(len(lines), 'line')} written anew; look at what changed before you keep it")
     return tested(result.file, switch)
 

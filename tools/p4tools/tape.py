@@ -63,14 +63,20 @@ def read_tape(data):
             return records, f"the tape breaks off in the record at byte {at}"
         record = Record(data[at], int.from_bytes(data[at + 1:at + 3], "big"), data[at + 7:at + 7 + length])
         if record.kind == END:
-            behind = len(data) - at - 7
-            return records, f"{behind} bytes stand behind the end record" if behind else None
+            return records, _wrong_end(record, len(data) - at - 7 - length)
         try:
             lanes.take(record)
         except Trouble as trouble:
             return records, f"the record at byte {at}: {trouble}"
         records.append(record)
         at += 7 + length
+
+
+def _wrong_end(record, behind):
+    """What is wrong with an end record behind which so many bytes stand, or None."""
+    if record.lane or record.payload:
+        return f"the end record has {'a lane' if record.lane else 'a payload'}, and takes none"
+    return f"{behind} bytes stand behind the end record" if behind else None
 
 
 class Lanes:
@@ -124,5 +130,9 @@ class Lanes:
                 raise Trouble("a message has at most 8,388,608 bytes")
             if lane in self.of_bytes:
                 raise Trouble(f"c{lane} holds the bytes of a transport, so it can't have calls too")
+        if record.kind == LEAVE and record.payload:
+            raise Trouble("a leave has no payload")
+        if record.kind == LEAVE and lane in self.of_bytes & self.left:
+            raise Trouble(f"c{lane} holds the bytes of a transport, and it has ended already")
         self.left |= {lane} if record.kind == LEAVE else set()
         self.calls[lane] = self.calls.get(lane, 0) + 1

@@ -152,8 +152,9 @@ def _reason(record, call):
     if call.code == 0:
         return ""
     message = parse(Status, call.messages[0]).message if call.messages else ""
-    if message:
-        return f", rule {message}: {rules.CONFIG.get(message, '')}"
+    rule = rules.of_config(message)
+    if rule:
+        return f", rule {rule}: {rules.CONFIG[rule]}"
     method = record.method() if record is not None and record.kind == tape.CALL else None
     reason = rules.WHOLE.get((method, code_name(call.code)))
     return f" ({reason})" if reason else ""

@@ -39,8 +39,8 @@ class Progress:
         self.has_told = False
 
     def at(self, done):
-        """Called with what is done so far; cheap where nothing is due."""
-        if done % self.every or time.monotonic() < self.next:
+        """Called with what is done so far, of which nothing is told before there is any; cheap where nothing is due."""
+        if not done or done % self.every or time.monotonic() < self.next:
             return
         self.next = time.monotonic() + (1 if self.on_terminal else 10)
         self.has_told = True

@@ -3,18 +3,19 @@ and `bytes:0063` for the very bytes. Numbers are sent in P4Runtime's canonical f
 zero bytes (P4Runtime 1.3.0, section 8.4)."""
 import ipaddress
 import re
+from typing import Optional
 
 from p4tools.trouble import Trouble
 
 MAC = re.compile(r"[0-9a-fA-F]{2}(:[0-9a-fA-F]{2}){5}")
 
 
-def canonical(number):
+def canonical(number: int) -> bytes:
     """The shortest bytes of a number, big-endian; of 0 one byte."""
     return number.to_bytes(max((number.bit_length() + 7) // 8, 1), "big")
 
 
-def read_number(word):
+def read_number(word: str) -> Optional[int]:
     """The number that a word is, or None."""
     if re.fullmatch(r"[0-9][0-9_]*", word):
         return int(word)
@@ -28,7 +29,7 @@ def read_number(word):
         return None
 
 
-def read_value(word):
+def read_value(word: str) -> bytes:
     """The bytes that a word stands for."""
     if word.startswith("bytes:"):
         return read_hex(word[6:])
@@ -38,7 +39,7 @@ def read_value(word):
     return canonical(number)
 
 
-def read_hex(text):
+def read_hex(text: str) -> bytes:
     """The bytes of hex digits, blanks allowed; `.` stands for no bytes."""
     digits = "".join(text.split())
     if digits == ".":
@@ -49,7 +50,7 @@ def read_hex(text):
         raise Trouble(f"{text[:40]} is not an even number of hex digits") from None
 
 
-def spell_value(data, width, hexadecimal=False):
+def spell_value(data: bytes, width: int, hexadecimal: bool = False) -> str:
     """The word for a value of so many bits, from which read_value makes the same bytes."""
     if not data or canonical(int.from_bytes(data, "big")) != data:
         return "bytes:" + data.hex()

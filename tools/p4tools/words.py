@@ -1,13 +1,16 @@
 """Lines cut into words, and words of the form NAME=VALUE and NAME(..)."""
 import re
+from collections.abc import Collection
+from typing import Optional
 
 from p4tools.trouble import Trouble
 from p4tools.values import read_number
 
 
-def cut(line):
+def cut(line: str) -> list[str]:
     """The words of a line, parted by blanks outside of parentheses, without a comment."""
-    words, word, depth = [], "", 0
+    words: list[str] = []
+    word, depth = "", 0
     for at, letter in enumerate(line):
         if letter == "#" and depth == 0 and (at == 0 or line[at - 1].isspace()):
             break
@@ -21,9 +24,10 @@ def cut(line):
     return words + [word] * bool(word)
 
 
-def cut_list(text):
+def cut_list(text: str) -> list[str]:
     """The items of a list, parted by commas outside of parentheses."""
-    items, item, depth = [], "", 0
+    items: list[str] = []
+    item, depth = "", 0
     for letter in text:
         depth += (letter == "(") - (letter == ")")
         if letter == "," and depth == 0:
@@ -33,7 +37,7 @@ def cut_list(text):
     return items + [item] if item or items else []
 
 
-def call_of(word):
+def call_of(word: str) -> tuple[str, list[str]]:
     """NAME and the items of NAME(ITEM, ..); of a bare NAME no items."""
     found = re.fullmatch(r"([^()=]+)(?:\((.*)\))?", word)
     if not found:
@@ -41,13 +45,13 @@ def call_of(word):
     return found[1], cut_list(found[2] or "")
 
 
-def pair_of(word):
+def pair_of(word: str) -> Optional[tuple[str, str]]:
     """NAME and VALUE of NAME=VALUE, or None where there is no `=` before a parenthesis."""
     name, equals, value = word.partition("=")
     return (name, value) if equals and "(" not in name else None
 
 
-def options(words, known):
+def options(words: list[str], known: Collection[str]) -> tuple[list[str], dict[str, int]]:
     """The rest of the words, and the numbers of the known NAME=NUMBER among them."""
     rest, given = [], {}
     for word in words:
@@ -59,7 +63,7 @@ def options(words, known):
     return rest, given
 
 
-def whole_number(what, word):
+def whole_number(what: str, word: str) -> int:
     """A number where one is needed."""
     number = read_number(word)
     if number is None:
@@ -67,7 +71,7 @@ def whole_number(what, word):
     return number
 
 
-def nothing_more(words, form):
+def nothing_more(words: list[str], form: str) -> None:
     """Refuses words that are left over."""
     if words:
         raise Trouble(f"{words[0]} is not expected here; write {form}")

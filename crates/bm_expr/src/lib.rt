@@ -13,5 +13,5 @@ pub use expression::{Number, NumberNode, Truth, TruthNode};
 pub use fitting::{Counts, fits, fits_truth};
 pub use meaning::{truth, value};
 pub use operators::cut;
-pub use settling::{is_settled, settled, settled_truth};
+pub use settling::{is_settled, settled};
 pub use store::{FieldPlace, HeaderPlace, Store};

@@ -57,9 +57,9 @@ pub fn settled(number: &Number) -> bool
     }
 }
 
-/// Whether every operand within a truth value that must be settled is.
+// Whether every operand within a truth value that must be settled is.
 #[cycle(settled)]
-pub fn settled_truth(truth: &Truth) -> bool
+fn settled_truth(truth: &Truth) -> bool
     ensures { result ≡ spec.truth_operands_settled truth.now }
 {
     match &truth.node {

@@ -1,3 +1,4 @@
+pub mod Determined
 pub mod Lanes
 pub mod Records
 pub mod Reports

@@ -52,7 +52,7 @@ names_calls lane [] q rest f = f q (λ c. omega arith)
 names_calls lane (one ∷ asked) q rest f =
     names_first one.call lane q (map (λ one. call_item lane one.call) asked ++ rest) (λ r more. names_calls lane asked r rest (λ s again. f s (λ c. omega (arith, more c, again c))))
 
-names_filled : (filled : List Filled) (lanes : ItemLanes) (p : Lanes) → AtLeast lanes.lanes p → AreItems lanes (map item_of filled) → NameMade p (records_of filled)
+pub names_filled : (filled : List Filled) (lanes : ItemLanes) (p : Lanes) → AtLeast lanes.lanes p → AreItems lanes (map item_of filled) → NameMade p (records_of filled)
 names_filled [] lanes p le each = tt
 names_filled (Kept (Call lane method message) ∷ rest) lanes p le each =
     (tt, names_filled rest (lanes_behind lanes (Record (Call lane method message))) (lanes_after p (Call lane method message)) (λ c. more_by (eqb c lane) (lanes.lanes.calls c) (p.calls c) (le c)) each.1)
@@ -96,7 +96,7 @@ with_feed b feed rest = cond b (feed ∷ rest) rest
 abbrev feed_of : List ℕ → List Asked → Feed
 feed_of piece asked = record { piece = piece; asked = asked }
 
-fed_by : (b : Bool) (lane other : ℕ) (piece : List ℕ) (asked : List Asked) (rest : List Filled) → eqb lane other ≡ b → feeds_on lane (Fed other piece asked ∷ rest) ≡ with_feed b (feed_of piece asked) (feeds_on lane rest)
+pub fed_by : (b : Bool) (lane other : ℕ) (piece : List ℕ) (asked : List Asked) (rest : List Filled) → eqb lane other ≡ b → feeds_on lane (Fed other piece asked ∷ rest) ≡ with_feed b (feed_of piece asked) (feeds_on lane rest)
 fed_by true lane other piece asked rest e = rw e refl
 fed_by false lane other piece asked rest e = rw e refl
 
@@ -107,7 +107,7 @@ no_feeds_by true other piece asked rest lanes lane e past takes below =
     absurd (closed_by (lanes.asks other) (lanes.lanes.has_left other) (subst (IsPast lanes) is past) takes)
 no_feeds_by false other piece asked rest lanes lane e past takes below = fed_by false lane other piece asked rest e ∙ below
 
-no_feeds : (filled : List Filled) (lanes : ItemLanes) (lane : ℕ) → IsPast lanes lane → AreItems lanes (map item_of filled) → feeds_on lane filled ≡ []
+pub no_feeds : (filled : List Filled) (lanes : ItemLanes) (lane : ℕ) → IsPast lanes lane → AreItems lanes (map item_of filled) → feeds_on lane filled ≡ []
 no_feeds [] lanes lane past each = refl
 no_feeds (Kept it ∷ rest) lanes lane past each = no_feeds rest (lanes_behind lanes (Record it)) lane (past_behind lanes lane (Record it) past) each.1
 no_feeds (Fed other piece asked ∷ rest) lanes lane past each =
@@ -115,25 +115,25 @@ no_feeds (Fed other piece asked ∷ rest) lanes lane past each =
 
 -- ---- the replies of a lane's calls are those of its bytes, and behind them that of its Leave
 
-abbrev replies : List Entry → List Reply
+abbrev pub replies : List Entry → List Reply
 replies entries = map (λ entry. entry.reply) entries
 
-abbrev given : List Asked → List Reply
+abbrev pub given : List Asked → List Reply
 given asked = map (λ one. one.reply) asked
 
 -- entries of one lane
-own_on : (lane other : ℕ) (own : List Entry) → lane ≡ other → AllByRecursion (λ entry. entry.lane ≡ other) own → entries_on lane own ≡ own
+pub own_on : (lane other : ℕ) (own : List Entry) → lane ≡ other → AllByRecursion (λ entry. entry.lane ≡ other) own → entries_on lane own ≡ own
 own_on lane other [] is each = refl
 own_on lane other (entry ∷ own) is each =
     ap (λ b. cond b (entry ∷ entries_on lane own) (entries_on lane own)) (eq-eqb lane entry.lane (is ∙ sym each.0)) ∙ ap (λ l. entry ∷ l) (own_on lane other own is each.1)
 
-others_on : (lane other : ℕ) (own : List Entry) → eqb lane other ≡ false → AllByRecursion (λ entry. entry.lane ≡ other) own → entries_on lane own ≡ []
+pub others_on : (lane other : ℕ) (own : List Entry) → eqb lane other ≡ false → AllByRecursion (λ entry. entry.lane ≡ other) own → entries_on lane own ≡ []
 others_on lane other [] e each = refl
 others_on lane other (entry ∷ own) e each =
     ap (λ b. cond b (entry ∷ entries_on lane own) (entries_on lane own)) (ap (eqb lane) each.0 ∙ e) ∙ others_on lane other own e each.1
 
 -- entries that are of no call of the lane's bytes, where nothing of its bytes comes behind them
-left_over : (lane : ℕ) (filled : List Filled) (entries : List Entry) → feeds_on lane filled ≡ [] → AreAnswered (asked_on lane filled) entries
+pub left_over : (lane : ℕ) (filled : List Filled) (entries : List Entry) → feeds_on lane filled ≡ [] → AreAnswered (asked_on lane filled) entries
 left_over lane filled entries none = record { left = replies entries; replies = ap (λ feeds. given (flat_map (λ feed. feed.asked) feeds) ++ replies entries) (sym none) }
 
 -- entries of other lanes in front
@@ -172,7 +172,7 @@ call_answered : (b : Bool) (lane other : ℕ) (rest : List Filled) (own later : 
 call_answered true lane other rest own later e each none h = left_over lane rest (entries_on lane (own ++ later)) (none (eqb-true lane other e))
 call_answered false lane other rest own later e each none h = passed_over lane (asked_on lane rest) own later (others_on lane other own e each) h
 
-true_here : (lane other : ℕ) (b : Bool) → lane ≡ other → cond (eqb lane other) true b ≡ true
+pub true_here : (lane other : ℕ) (b : Bool) → lane ≡ other → cond (eqb lane other) true b ≡ true
 true_here lane other b is = ap (λ t. cond t true b) (eq-eqb lane other is)
 
 answered_on : (filled : List Filled) (lanes : ItemLanes) (lane : ℕ) (journal : List Entry) → AreItems lanes (map item_of filled) → FollowsOn filled journal → AreAnswered (asked_on lane filled) (entries_on lane journal)

@@ -6,6 +6,7 @@ use Rattle.p4_types.specs.declared.journal.Entry.{Entry}
 use Rattle.p4_types.specs.declared.journal.Report.{Report}
 use Rattle.p4_types.specs.declared.tape.TapeRecord.{TapeRecord}
 use Rattle.p4_types.specs.declared.tape.TapeRecord.TheVariants.{Call, Packet, Leave, Meet}
+use Rattle.switch_spec.specs.History.{is_refused_for_memory}
 use Rattle.run_spec.specs.Play.{Turn, items_of, played, played_report}
 use Rattle.run_spec.specs.Report.{IsReport}
 use Rattle.run_spec.specs.ReportText.{report_text}
@@ -59,3 +60,8 @@ RecordsAreItems = (start : Start) (items : List TapeItem) (text : List ℕ) → 
 abbrev pub ItemsAreRecords : Type 0
 ItemsAreRecords = (start : Start) (items : List TapeItem) (text : List ℕ) → list_any is_piece items ≡ false → IsItemFreeReport start items text
     → (report : IsReport start (filter_map record_in items) text) × FiguresAreBounded start report.journal report.records
+
+-- Where no call is refused for memory the tape determines the report, also where lanes bring bytes.
+abbrev pub ItemsDetermineReport : Type 0
+ItemsDetermineReport = (start : Start) (items : List TapeItem) (one other : List ℕ) → AreItems no_item_lanes items → (a : IsItemLockstepReport start items one) (b : IsItemLockstepReport start items other)
+    → AllByRecursion (λ made. is_refused_for_memory made ≡ false) a.report.journal → AllByRecursion (λ made. is_refused_for_memory made ≡ false) b.report.journal → one ≡ other

@@ -75,9 +75,9 @@ settings_from verb s (name ∷ value ∷ rest) = elim (flag_named name) [
   | None ↦ option_and_then (λ t. settings_from verb t rest) (option_and_then (λ option. with_option option verb s) (number_named name value))
 ]
 
--- with what a switch starts: device 1, the CPU port 255 and 16,384 rows where no option says another
+-- with what a switch starts: device 1, the CPU port 255 and 16,384 rows where no option says another, and 1,048,576 slots of counters
 abbrev pub start_of : Settings → Start
-start_of s = record { device = unwrap_or s.device 1; cpu = unwrap_or s.cpu 255; rows = unwrap_or s.rows 16384; bridge = s.bridge }
+start_of s = record { device = unwrap_or s.device 1; cpu = unwrap_or s.cpu 255; rows = unwrap_or s.rows 16384; slots = 1048576; bridge = s.bridge }
 
 -- a replay is in lockstep where that was asked for, and free else
 abbrev pub mode_of : Bool → Mode

@@ -260,6 +260,7 @@ impl Settings {
             device: self.device.unwrap_or(1),
             cpu: self.cpu.unwrap_or(255),
             rows: self.rows.unwrap_or(16_384),
+            slots: 1_048_576,
             bridge: self.bridge,
         }
     }

@@ -11,6 +11,7 @@ use p4_types::code::{ArbitrationRule, Code};
 use p4_types::events::{Event, Origin};
 use p4_types::ids::Ids;
 use p4_types::messages::{MasterArbitrationUpdate, StreamMessageRequest};
+use p4v1_read::arbitration_update;
 use plane_image::Image;
 use std::alloc::Global;
 
@@ -41,7 +42,7 @@ fn arbitration(
     if update.device_id != image.device() {
         return Ok(bare(alloc, ArbitrationRule::A1.code()));
     }
-    let new = match image.roles().check(lane, update) {
+    let new = match image.roles().check(lane, arbitration_update(update)) {
         Ok(new) => new,
         Err(rule) => return Ok(bare(alloc, rule.code())),
     };

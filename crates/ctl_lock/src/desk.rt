@@ -4,7 +4,6 @@ ghost use Rattle.ctl_lock.specs.Locked.{HasSeen, IsWhole};
 ghost use Rattle.ctl_lock.specs.Passing.{IsAsked};
 ghost use Rattle.ctl_lock.specs.Reading.{Looks};
 ghost use Rattle.snap_worker.specs.Sums.{noted_by};
-ghost use Rattle.plane_spec.specs.Entries.{slot_limit};
 
 use crate::call::read;
 use crate::loading::look;
@@ -62,13 +61,12 @@ impl<J: Naming, R: Wait + Drop> Drop for TapeDesk<J, R> {
 impl<J: Naming, R: Wait + Drop> Model for TapeDesk<J, R> {
     ghost use Rattle.std.specs.Prelude.{◌≡◌, ◌≤◌};
     ghost use Rattle.counter_bank.specs.Account.{Opened};
-    ghost use Rattle.plane_spec.specs.Entries.{slot_limit};
 
     ghost Value = { Opened };
 
     ghost view = { λ d. d.bank };
 
-    ghost invariant = { λ d. (d.table ≡ J.table) × (d.bank.id ≡ J.bank) × (slot_limit ≤ d.bank.slots) };
+    ghost invariant = { λ d. (d.table ≡ J.table) × (d.bank.id ≡ J.bank) × (J.start.slots ≤ d.bank.slots) };
 }
 
 impl<J: Naming, R: Wait + Drop> TapeDesk<J, R> {
@@ -81,7 +79,7 @@ impl<J: Naming, R: Wait + Drop> TapeDesk<J, R> {
     ) -> TapeDesk<J, R>
         requires table { table ≡ J.table }
         requires bank { bank.id ≡ J.bank }
-        requires slots { slot_limit ≤ bank.slots }
+        requires slots { J.start.slots ≤ bank.slots }
         ensures { result ≡ bank }
     {
         TapeDesk {
@@ -113,7 +111,7 @@ impl<J: Naming, R: Wait + Drop> TapeDesk<J, R> {
     pub fn bank(&self) -> &Bank
         ensures bank { result.now ≡ self.now }
         ensures name { result.now.id ≡ J.bank }
-        ensures slots { slot_limit ≤ result.now.slots }
+        ensures slots { J.start.slots ≤ result.now.slots }
     {
         &self.bank
     }
@@ -157,6 +155,7 @@ impl<J: Naming, R: Wait + Drop> TapeDesk<J, R> {
         requires lane { lane < 32 }
         requires bank { work.old.seat.bank ≡ J.bank }
         requires list { work.old.told.list ≡ J.list }
+        requires start { work.old.told.start ≡ J.start }
         ensures made { OnOk result (IsWhole J.start J.list cpu call seat.old seat.new work.old work.new) }
         ensures seat { (seat.new.table ≡ seat.old.table) × (seat.new.number ≡ seat.old.number) }
     {

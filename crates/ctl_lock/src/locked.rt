@@ -5,7 +5,6 @@ ghost use Rattle.ctl_lock.specs.Calls.{journal_of};
 ghost use Rattle.snap_worker.specs.Sums.{figures_in};
 ghost use Rattle.ctl_lock.specs.Locked.{IsRead, IsHandled, IsEntry, IsCalled, IsStanding, SeeAll, reads, seat_of};
 ghost use Rattle.lane_work.specs.Work.{steps_told};
-ghost use Rattle.plane_spec.specs.Entries.{slot_limit};
 ghost use Rattle.plane_spec.specs.Planes.{opened, applied};
 ghost use Rattle.pub_snap.specs.Snapshots.{all_of};
 ghost use Rattle.switch_spec.specs.Answer.{called};
@@ -255,7 +254,7 @@ impl<J: Naming, R: Wait + Drop> Locked<J, R> {
     /// The slot of the counters that is drawn next.
     pub fn next_slot(&self) -> u32
         ensures slot { result ≡ self.now.core.control.next_slot }
-        ensures limit { result ≤ slot_limit }
+        ensures limit { result ≤ J.start.slots }
     {
         self.control.image().next_slot()
     }

@@ -34,7 +34,7 @@ impl Naming for Brand {
 
     ghost bank = { bank.no_bank };
 
-    ghost start = { record { device = 0; cpu = 0; rows = 0; bridge = false } };
+    ghost start = { record { device = 0; cpu = 0; rows = 0; slots = 0; bridge = false } };
 
     ghost calls = { λ lane. [] };
 

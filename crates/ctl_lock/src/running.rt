@@ -1,7 +1,6 @@
 //! A packet that is run until there is a snapshot to run it on.
 ghost use Rattle.std.specs.Prelude.{◌≡◌, ◌≤◌, length, IfSome, OnOk};
 ghost use Rattle.ctl_lock.specs.Passing.{Follows, RunsAtLast, SameLane};
-ghost use Rattle.plane_spec.specs.Entries.{slot_limit};
 
 use counter_bank::Bank;
 use lane_work::LaneWork;
@@ -22,7 +21,7 @@ pub fn run_at_last<W: Wait>(
     packet: &[u8],
 ) -> Result<(), NoMemory>
     requires bank { work.old.seat.bank ≡ bank.now.id }
-    requires slots { slot_limit ≤ bank.now.slots }
+    requires slots { work.old.told.start.slots ≤ bank.now.slots }
     requires packet { length packet.now ≤ 9216 }
     ensures ran { OnOk result (RunsAtLast port packet.now work.old work.new) }
     ensures lane { OnOk result (SameLane work.old work.new) }
@@ -49,7 +48,7 @@ pub(crate) fn run_behind<W: Wait>(
     told: &Told,
 ) -> Result<(), NoMemory>
     requires bank { work.old.seat.bank ≡ bank.now.id }
-    requires slots { slot_limit ≤ bank.now.slots }
+    requires slots { work.old.told.start.slots ≤ bank.now.slots }
     requires packet { IfSome packet (λ packet. length packet ≤ 9216) }
     requires list { told.now.list ≡ work.old.told.list }
     ensures follows { OnOk result (Follows packet port told.now work.old work.new) }

@@ -17,7 +17,7 @@ use Rattle.live_desk.specs.declared.naming.Naming as naming
 use Rattle.p4_types.specs.contracts.records.Output as Output
 use Rattle.thread_crossings.proofs.Desks.{control_send}
 use Rattle.thread_crossings.proofs.Snapshots.{publisher_send, told_send}
-use Rattle.thread_crossings.proofs.Workers.{bank_send, bank_sync, verdict_send, worker_send}
+use Rattle.thread_crossings.proofs.Workers.{bank_send, bank_sync, worker_send}
 
 steps_send : IsSend (CallSteps.the_field).row
 steps_send = search (crosses, sendable) depth 60 fits 20000
@@ -26,7 +26,7 @@ output_send : IsSend (Output.the_field).row
 output_send = search (crosses, sendable) depth 60 fits 20000
 
 pub pass_send : (J : RattleType) (g : naming.Ghosts J.Denot) → IsSend J → IsSend (Pass.the_field J g).row
-pass_send J g s = search (worker_send, told_send, verdict_send, output_send, steps_send, place_send, crosses, sendable) depth 60 fits 20000
+pass_send J g s = search (worker_send, told_send, output_send, steps_send, place_send, crosses, sendable) depth 60 fits 20000
 
 pub desk_worker_send : (J : RattleType) (g : naming.Ghosts J.Denot) → IsSend J → IsSend (DeskWorker.the_field J g).row
 desk_worker_send J g s = search (worker_send, crosses, sendable) depth 60 fits 20000

@@ -1,5 +1,5 @@
 //! Frames, read and written again.
-use h2_frames::{Frame, H2Code, StreamPriority, check_head, read_head, read_payload, write_frame};
+use h2_frames::{Frame, H2Code, StreamPriority, read_head, read_payload, write_frame};
 use list_types::{ByteList, Refusal};
 use row_lines::{NoAnswer, bytes, say, tell, tell_hex};
 use std::alloc::Global;
@@ -131,7 +131,7 @@ fn tell_code(told: &mut String, code: H2Code) {
     tell(told, code.number());
 }
 
-/// Of the bytes of a frame, or of a head that is refused by itself: what the frame is and its bytes as they are written,
+/// Of the bytes of a frame: what the frame is and its bytes as they are written,
 /// or the code of the rule that it breaks.
 pub fn frame(alloc: Global, hex: &str, told: &mut String) -> Result<(), NoAnswer> {
     let input = bytes(alloc, hex)?;
@@ -139,10 +139,6 @@ pub fn frame(alloc: Global, hex: &str, told: &mut String) -> Result<(), NoAnswer
         return Err(NoAnswer);
     };
     let head = read_head(&[*a, *b, *c, *d, *e, *f, *g, *h, *i]);
-    if let Err(code) = check_head(&head) {
-        tell_code(told, code);
-        return Ok(());
-    }
     if payload.len() != head.length as usize {
         return Err(NoAnswer);
     }

@@ -1,5 +1,5 @@
 -- Several bytes that are looked at together.
-use Rattle.std.proofs.Common.{◌≡◌, ℕ, suc, ◌+◌, ◌<◌, ◌≤◌, min, Bool, true, List, [], ◌∷◌, ◌++◌, length, take, drop, Some, Ok, Err, refl, sym, ap, ◌∙◌, append_assoc, inl, inr, arith}
+use Rattle.std.proofs.Common.{◌≡◌, ℕ, suc, ◌+◌, ◌<◌, ◌≤◌, ◌⊎◌, min, Bool, true, List, [], ◌∷◌, ◌++◌, length, take, drop, Some, Ok, Err, refl, sym, ap, ◌∙◌, append_assoc, inl, inr, arith}
 use Rattle.std.specs.Prelude.{nat_lt, if◌then◌else◌}
 use Rattle.std.proofs.lemmas.Bool.{cases_lt, lt-ltb, le-ltb}
 use Rattle.std.proofs.lemmas.List.{append-nil, length-append, length-take, take-append-le, take-append-drop}
@@ -13,7 +13,7 @@ use Rattle.h2_conn.specs.declared.event.H2Event.{H2Event}
 use Rattle.h2_conn.specs.declared.state.State.{State}
 use Rattle.h2_conn.specs.declared.phase.Phase.{Phase}
 use Rattle.h2_conn.specs.declared.phase.Phase.TheVariants as phases
-use Rattle.h2_conn.specs.Bytes.{events_of, waiting_for_more, with_goaway, bytes_taken, preface_taken, frame_bytes_taken, carried, next, run, span, IsTurn, Settles, Advances, Feeds}
+use Rattle.h2_conn.specs.Bytes.{events_of, waiting_for_more, with_goaway, bytes_taken, preface_taken, frame_bytes_taken, carried, next, run, span, IsTurn, AreQuietToLast, Settles, Advances, Feeds}
 use Rattle.h2_conn.proofs.Cuts.{any_cut, broken, unaware}
 
 -- ---- how far may be looked
@@ -98,6 +98,57 @@ least count n le = omega arith
 -- the front of a piece is looked at together
 pub turn_of_front : (conn : State) (rest front : List ℕ) (count : ℕ) → count ≤ length rest → front ≡ take count rest → IsTurn conn.greeted (conn.unread ++ take count rest) count → IsTurn conn.greeted (conn.unread ++ front) (length front)
 turn_of_front conn rest front count le ef is = rw (ef, length-take count rest, least count (length rest) le) is
+
+-- ---- what gives nothing before its last byte
+
+quiet_together : (conn : State) (bytes : List ℕ) → conn.greeted ≡ true → length (conn.unread ++ bytes) ≤ span (conn.unread ++ bytes) → AreQuietToLast (phases.Open conn) bytes
+unfolding AreQuietToLast
+quiet_together conn [] greeted le = tt
+quiet_together conn (byte ∷ []) greeted le = tt
+quiet_together conn (byte ∷ second ∷ rest) greeted le =
+    let kept = conn.unread ++ byte ∷ [] in
+    let grouped : kept ++ second ∷ rest ≡ conn.unread ++ byte ∷ second ∷ rest = append_assoc conn.unread (byte ∷ []) (second ∷ rest) in
+    let within : length (kept ++ second ∷ rest) ≤ span (kept ++ second ∷ rest) = rw grouped le in
+    let waits : bytes_taken kept conn ≡ waiting_for_more kept conn = if_true conn.greeted (frame_bytes_taken kept conn) (preface_taken kept conn) greeted ∙ undecided kept (second ∷ rest) conn (omega arith) within in
+    rw waits (refl, refl, quiet_together (record conn { unread = kept }) (second ∷ rest) greeted within)
+
+quiet_alone : (phase : Phase) (byte : ℕ) (rest : List ℕ) → length (byte ∷ rest) ≡ 1 → AreQuietToLast phase (byte ∷ rest)
+unfolding AreQuietToLast
+quiet_alone phase byte [] one = tt
+quiet_alone phase byte (second ∷ rest) one = absurd (omega arith)
+
+-- what is looked at in one turn gives nothing before its last byte
+quiet_turn : (conn : State) (front : List ℕ) → 0 < length front → IsTurn conn.greeted (conn.unread ++ front) (length front) → AreQuietToLast (phases.Open conn) front
+quiet_turn conn [] some is = absurd (omega arith)
+quiet_turn conn (byte ∷ rest) some (inl one) = quiet_alone (phases.Open conn) byte rest one
+quiet_turn conn (byte ∷ rest) some (inr both) = quiet_together conn (byte ∷ rest) both.0 both.1
+
+-- the front of a piece that is looked at together
+pub quiet_front : (conn : State) (rest : List ℕ) (count : ℕ) → 0 < count → count ≤ length rest → IsTurn conn.greeted (conn.unread ++ take count rest) count → AreQuietToLast (phases.Open conn) (take count rest)
+quiet_front conn rest count some le is = quiet_turn conn (take count rest) (omega (arith, length-take count rest, least count (length rest) le)) (turn_of_front conn rest (take count rest) count le refl is)
+
+-- a connection that has ended gives nothing
+quiet_end : (code : H2Code) (output bytes : List ℕ) → AreQuietToLast (phases.Broken code output) bytes
+unfolding AreQuietToLast
+quiet_end code output [] = tt
+quiet_end code output (byte ∷ []) = tt
+quiet_end code output (byte ∷ second ∷ rest) = (refl, refl, quiet_end code output (second ∷ rest))
+
+quiet_loss : (bytes : List ℕ) → AreQuietToLast phases.OutOfMemory bytes
+unfolding AreQuietToLast
+quiet_loss [] = tt
+quiet_loss (byte ∷ []) = tt
+quiet_loss (byte ∷ second ∷ rest) = (refl, refl, quiet_loss (second ∷ rest))
+
+pub quiet_none : (phase : Phase) → AreQuietToLast phase []
+unfolding AreQuietToLast
+quiet_none phase = tt
+
+pub quiet_ended : (self phase : Phase) (bytes : List ℕ) → ((code : H2Code) × (output : List ℕ) × phase ≡ phases.Broken code output) ⊎ (phase ≡ phases.OutOfMemory) → phase ≡ self → AreQuietToLast self bytes
+quiet_ended self phase bytes (inl broken) e = rw (sym e ∙ broken.2) (quiet_end broken.0 broken.1 bytes)
+quiet_ended self phase bytes (inr lost) e = rw (sym e ∙ lost) (quiet_loss bytes)
+
+-- ---- piece by piece
 
 -- the rest of a piece is still to be looked at
 pub record AreRun (whole : Phase × List H2Event) (before : List H2Event) (conn : State) (events : List H2Event) (rest : List ℕ) (n : ℕ) : Type 0 where

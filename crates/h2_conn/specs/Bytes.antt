@@ -1,5 +1,5 @@
 -- A connection over the bytes that it receives (RFC 9113, sections 3.4 and 4.1). It is said byte by byte, so that it does not matter how the bytes are cut.
-use Rattle.std.specs.Prelude.{◌≡◌, ◌≤◌, ◌⊎◌, true, ℕ, ◌+◌, ◌==◌, nat_eq, nat_lt, max, codes, if◌then◌else◌, Bool, List, [], ◌∷◌, ◌++◌, length, take, drop, Option, Some, None, Result, Ok, Err}
+use Rattle.std.specs.Prelude.{◌≡◌, ◌≤◌, ◌<◌, ◌⊎◌, true, ℕ, ◌+◌, ◌==◌, nat_eq, nat_lt, max, codes, if◌then◌else◌, Bool, List, [], ◌∷◌, ◌++◌, length, take, drop, Option, Some, None, Result, Ok, Err}
 use Rattle.std.specs.List.{starts_with}
 use Rattle.list_types.specs.declared.memory.Refusal.{Refusal}
 use Rattle.list_types.specs.declared.memory.Refusal.TheVariants as refusals
@@ -116,6 +116,17 @@ without_output phases.OutOfMemory = phases.OutOfMemory
 abbrev pub Feeds : Result (List H2Event × Option H2Code) NoMemory → Phase → Phase → List ℕ → Type 0
 Feeds (Ok x) old new piece = (◌≡◌ {A = Phase × List H2Event} (new, x.0) (run old piece)) × (x.1 ≡ code_of new) × ¬ (old ≡ phases.OutOfMemory)
 Feeds (Err e) old new piece = (new ≡ phases.OutOfMemory) × (code_of old ≡ None)
+
+-- each of these bytes but the last gives no event, and sends nothing
+unfoldable pub AreQuietToLast : Phase → List ℕ → Type 0
+AreQuietToLast phase [] = Unit {0}
+AreQuietToLast phase (byte ∷ []) = Unit {0}
+AreQuietToLast phase (byte ∷ second ∷ rest) = ((next phase byte).1 ≡ []) × (output_of (next phase byte).0 ≡ output_of phase) × AreQuietToLast (next phase byte).0 (second ∷ rest)
+
+-- What the first bytes of a piece give, of which there is one at least if the piece has one, and of which only the last gives anything.
+abbrev pub FeedsSome : Result (ℕ × List H2Event × Option H2Code) NoMemory → Phase → Phase → List ℕ → Type 0
+FeedsSome (Ok x) old new piece = (x.0 ≤ length piece) × (0 < length piece → 0 < x.0) × Feeds (Ok (x.1, x.2)) old new (take x.0 piece) × AreQuietToLast old (take x.0 piece)
+FeedsSome (Err e) old new piece = Feeds (Err e) old new piece
 
 -- Cutting bytes in two changes nothing: not the connection behind them, not the events, one part after the other.
 abbrev pub AnyCut : Type 0

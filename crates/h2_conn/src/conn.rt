@@ -1,7 +1,7 @@
 //! A connection.
-ghost use Rattle.std.specs.Prelude.{◌≡◌, ◌++◌, [], None, OnOk, OnErr, IfOk, IsErr};
+ghost use Rattle.std.specs.Prelude.{◌≡◌, ◌≤◌, ◌<◌, ◌++◌, [], length, take, None, OnOk, OnErr, IfOk, IsErr};
 ghost use Rattle.h2_streams.specs.declared.stream.Waiting.TheVariants as waitings;
-ghost use Rattle.h2_conn.specs.Bytes.{with_goaway, run, code_of, opening, output_of, without_output, Feeds};
+ghost use Rattle.h2_conn.specs.Bytes.{with_goaway, run, code_of, opening, output_of, without_output, Feeds, AreQuietToLast, FeedsSome};
 ghost use Rattle.h2_conn.specs.Sends.{sent, headers_sent, data_sent};
 ghost use Rattle.h2_conn.specs.Frames.{greeting};
 ghost use Rattle.h2_conn.specs.declared.phase.Phase.TheVariants as phases;
@@ -9,7 +9,7 @@ ghost use Rattle.h2_conn.specs.declared.phase.Phase.TheVariants as phases;
 use crate::breach::Breach;
 use crate::event::H2Event;
 use crate::phase::Phase;
-use crate::pieces::advance;
+use crate::pieces::{advance, count_of};
 use crate::receiver::Receiver;
 use crate::state::State;
 use h2_frames::{Frame, H2Code, Setting, write_goaway};
@@ -134,6 +134,36 @@ impl Conn {
             }
             Phase::OutOfMemory => Err(NoMemory),
         }
+    }
+
+    // How many of the next bytes are read together: a frame at most, and all behind a breach.
+    fn count(&self, piece: &[u8]) -> usize
+        ensures within { (result ≤ length piece.now) × (0 < length piece.now → 0 < result) }
+        ensures quiet { AreQuietToLast self.now (take result piece.now) }
+    {
+        if piece.is_empty() {
+            return 0;
+        }
+        match &self.phase {
+            Phase::Open(conn) => count_of(conn, piece),
+            Phase::Broken { .. } | Phase::OutOfMemory => piece.len(),
+        }
+    }
+
+    /// The same of the first bytes of a piece alone, and how many these are: not more than a frame, and one at
+    /// least where there is one. None of them but the last gives an event or anything to send. So what each
+    /// byte causes may be taken and sent before a later byte is read, without a call for each byte.
+    pub fn feed_some(
+        &mut self,
+        alloc: Global,
+        piece: &[u8],
+    ) -> Result<(usize, List<H2Event>, Option<H2Code>), NoMemory>
+        ensures { FeedsSome result self.old self.new piece.now }
+    {
+        let used = self.count(piece);
+        let (front, _) = piece.split_at(used);
+        let (events, code) = self.feed(alloc, front)?;
+        Ok((used, events, code))
     }
 
     fn send(

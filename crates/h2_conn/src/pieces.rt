@@ -68,7 +68,8 @@ fn count_behind(conn: &Receiver, piece: &[u8]) -> usize
     piece.len().min(9 + head.length as usize - kept)
 }
 
-fn count_of(conn: &Receiver, piece: &[u8]) -> usize
+/// How many bytes of a piece are looked at together.
+pub(crate) fn count_of(conn: &Receiver, piece: &[u8]) -> usize
     requires { 0 < length piece.now }
     ensures within { (0 < result) × (result ≤ length piece.now) }
     ensures turn { IsTurn conn.now.greeted (conn.now.unread ++ take result piece.now) result }

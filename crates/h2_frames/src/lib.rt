@@ -12,7 +12,7 @@ mod writing;
 pub use codes::H2Code;
 pub use fragment::Fragment;
 pub use frame::{Frame, Setting, StreamPriority};
-pub use head::{Head, check_head, read_head};
+pub use head::{Head, read_head};
 pub use reading::{ends_headers, is_padded_data, read_gathered, read_padded_data, read_payload};
 pub use writing::{
     write_continuation, write_data, write_frame, write_goaway, write_headers, write_rst_stream,

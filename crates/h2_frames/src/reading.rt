@@ -398,7 +398,7 @@ fn frame(alloc: Global, head: &Head, bytes: &[u8]) -> Result<Frame, Refusal<H2Co
 
 /// The frame of a head and its payload, without its padding. A frame that breaks a rule by itself is
 /// refused with the rule's code: FRAME_SIZE_ERROR before PROTOCOL_ERROR before FLOW_CONTROL_ERROR
-/// (RFC 9113, section 6). How long the payload may be is for `check_head`. What is read can be
+/// (RFC 9113, section 6). How long the payload may be is for the caller. What is read can be
 /// written again.
 pub fn read_payload(alloc: Global, head: &Head, bytes: &[u8]) -> Result<Frame, Refusal<H2Code>>
     requires whole { length bytes.now ≡ head.now.length }

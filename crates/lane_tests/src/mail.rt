@@ -14,6 +14,12 @@ fn packet(alloc: Global) -> PacketIn {
     }
 }
 
+fn packets(alloc: Global) -> Result<List<PacketIn>, Fail> {
+    let mut packets = List::new(alloc);
+    packets.push(packet(alloc))?;
+    Ok(packets)
+}
+
 fn notify(alloc: Global, mail: &mut Mail<u32>, lane: u16, count: u32)
     requires { lane < 32 }
 {
@@ -96,7 +102,7 @@ fn is_empty(mail: &mut Mail<u32>, lane: u16, now: u64) -> bool
 fn an_overflow_is_said_once(rt: HostRuntime) -> Result<(), Fail> {
     let mut mail = Mail::<u32>::open(rt.alloc())?;
     notify(rt.alloc(), &mut mail, 31, 255);
-    mail.deliver_packet(Some(31), packet(rt.alloc()), &[31]);
+    mail.deliver_packets(31, packets(rt.alloc())?);
     notify(rt.alloc(), &mut mail, 31, 1);
     notify(rt.alloc(), &mut mail, 31, 1);
     assert!(rt; notices(&mut mail, 31) == 255);
@@ -127,7 +133,6 @@ fn the_primary_gets_digest_lists(rt: HostRuntime) -> Result<(), Fail> {
     };
     mail.set_digest(7, Some(&config));
     deliver_samples(rt.alloc(), &mut mail);
-    mail.deliver_packet(Some(3), packet(rt.alloc()), &[4]);
     assert!(rt; is_empty(&mut mail, 3, 100) && mail.unstored() == 0);
     assert!(rt; list_id(&mut mail, 4, 129) == Some(1) && list_id(&mut mail, 4, 129).is_none());
     assert!(rt; list_id(&mut mail, 4, 130) == Some(2) && list_id(&mut mail, 4, 500).is_none());

@@ -4,7 +4,6 @@ ghost use Rattle.counter_bank.specs.Account.{NotesAt};
 ghost use Rattle.counter_bank.specs.Figures.{figures_of, AtMost};
 ghost use Rattle.lane_work.specs.Running.{IsRefused};
 ghost use Rattle.lane_work.specs.Work.{new_work, Ran};
-ghost use Rattle.plane_spec.specs.Entries.{slot_limit};
 ghost use Rattle.pub_snap.specs.Beginnings.{Begins};
 ghost use Rattle.snap_worker.specs.Sums.{AreSums, NotesOwn, SeatLooks, noted_by};
 
@@ -157,7 +156,7 @@ impl LaneWork {
         packet: &[u8],
     ) -> Result<(), Refusal<NoEntry>>
         requires bank { self.old.seat.bank ≡ bank.now.id }
-        requires slots { slot_limit ≤ bank.now.slots }
+        requires slots { self.old.told.start.slots ≤ bank.now.slots }
         requires packet { length packet.now ≤ 9216 }
         ensures ran { OnOk result (Ran port packet.now self.old self.new) }
         ensures refused { IfErr result (λ error. IsRefused error self.old self.new) }

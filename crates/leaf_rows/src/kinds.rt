@@ -1,5 +1,5 @@
 //! The kinds of rows.
-use crate::{edge, expressions, lists, numbers, roles, samples, wire};
+use crate::{edge, expressions, idle, lists, numbers, roles, samples, wire};
 use row_lines::NoAnswer;
 use std::alloc::Global;
 
@@ -21,6 +21,7 @@ pub fn answer(
         "message parts" => wire::parts(alloc, asked, told),
         "edits" => lists::edits(alloc, asked, told),
         "outbox" => lists::outbox(alloc, asked, told),
+        "ticks" => idle::ticks(alloc, asked, told),
         "roles" => roles::roles(alloc, asked, told),
         "role configuration" => roles::configuration(alloc, asked, told),
         "samples" => samples::samples(alloc, asked, told),

@@ -12,7 +12,6 @@ fn edit(list: &mut UndoVec<u64>, step: Step<'_>) -> Result<(), NoAnswer> {
         "insert" if at <= list.len() => list.insert(at, item)?,
         "replace" if at < list.len() => list.replace(at, item)?,
         "remove" if at < list.len() => list.remove(at)?,
-        "discard" if at < list.len() => list.discard(at),
         "settle" => list.settle(),
         "undo" => list.undo(),
         _ => return Err(NoAnswer),

@@ -3,6 +3,7 @@
 
 mod edge;
 mod expressions;
+mod idle;
 mod kinds;
 mod lists;
 mod numbers;

@@ -1,7 +1,9 @@
 //! Arbitrations and ends of sessions.
 use list_types::{ByteList, Text};
+use p4_types::calls::ArbitrationUpdate;
 use p4_types::code::{ArbitrationRule, Code};
 use p4_types::messages::{Any, MasterArbitrationUpdate, Role, Uint128};
+use p4v1_read::arbitration_update;
 use role_arbiter::{Lanes, Roles};
 use row_lines::{NoAnswer, Step, bytes, say, steps, tell};
 use std::alloc::Global;
@@ -13,17 +15,22 @@ fn number(code: Option<Code>) -> u8 {
     }
 }
 
-fn update(role: Role, high: u64, low: u64) -> MasterArbitrationUpdate {
+// An update of election id 1.
+fn update(role: Role) -> MasterArbitrationUpdate {
     MasterArbitrationUpdate {
         device_id: 1,
         role: Some(role),
-        election_id: Uint128 { high, low },
+        election_id: Uint128 { high: 0, low: 1 },
         status: None,
     }
 }
 
-fn plain(id: u64) -> Role {
-    Role { id, config: None }
+fn plain(role: u64, high: u64, low: u64) -> ArbitrationUpdate {
+    ArbitrationUpdate {
+        role,
+        election_id: Uint128 { high, low },
+        config: Some(None),
+    }
 }
 
 fn tell_lanes(told: &mut String, roles: &Roles, lanes: &Lanes) {
@@ -60,8 +67,11 @@ fn step_of(told: &mut String, roles: &mut Roles, step: Step<'_>) -> Result<(), N
                 say(told, "none");
             }
         }
-        "arbitrate" => match roles.arbitrate_and_tell(caller, &update(plain(role), high, low)) {
-            Ok(lanes) => tell_lanes(told, roles, &lanes),
+        "arbitrate" => match roles.check(caller, plain(role, high, low)) {
+            Ok(new) => {
+                let lanes = roles.enter(new);
+                tell_lanes(told, roles, &lanes);
+            }
             Err(rule) => tell_rule(told, rule),
         },
         _ => return Err(NoAnswer),
@@ -100,7 +110,7 @@ pub fn configuration(alloc: Global, asked: &[&str], told: &mut String) -> Result
     };
     let role = configured(alloc, type_url, value)?;
     let mut roles = Roles::open(alloc)?;
-    if let Err(rule) = roles.arbitrate(0, &update(role, 0, 1)) {
+    if let Err(rule) = roles.arbitrate(0, arbitration_update(&update(role))) {
         tell_rule(told, rule);
         return Ok(());
     }

@@ -3,8 +3,7 @@ ghost use Rattle.std.specs.Prelude.{◌≡◌, IfOk};
 ghost use Rattle.bm_expr.specs.Trees.{Literal};
 
 use bm_expr::{
-    FieldPlace, Number, NumberNode, Store, Truth, TruthNode, is_settled, settled, settled_truth,
-    value,
+    FieldPlace, Number, NumberNode, Store, Truth, TruthNode, is_settled, settled, value,
 };
 use list_types::NoMemory;
 use std::alloc::Global;
@@ -54,7 +53,8 @@ fn sum(alloc: Global) -> Result<Number, NoMemory> {
 fn is_compared(alloc: Global, number: Number) -> Result<bool, NoMemory> {
     let number = Box::new(alloc, number)?;
     let less = Truth::new(TruthNode::Less(number, literal(alloc, 3)?));
-    let is_compared = settled_truth(&less);
+    let less = Number::new(NumberNode::OfTruth(Box::new(alloc, less)?));
+    let is_compared = settled(&less);
     drop(less);
     Ok(is_compared)
 }

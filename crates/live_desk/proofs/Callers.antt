@@ -21,7 +21,8 @@ use Rattle.p4_types.specs.declared.code.ConfigRule.{ConfigRule}
 use Rattle.p4_types.specs.declared.events.Event.TheVariants as events
 use Rattle.p4_types.specs.declared.events.Origin.{Origin}
 use Rattle.p4_types.specs.declared.messages.ForwardingPipelineConfig.{ForwardingPipelineConfig}
-use Rattle.p4_types.specs.declared.messages.MasterArbitrationUpdate.{MasterArbitrationUpdate}
+use Rattle.p4_types.specs.declared.calls.ArbitrationUpdate.{ArbitrationUpdate}
+use Rattle.p4v1_read.specs.RoleConfigs.{read_update}
 use Rattle.p4_types.specs.declared.messages.PacketOut.{PacketOut}
 use Rattle.p4_types.specs.declared.messages.SetForwardingPipelineConfigRequest.{SetForwardingPipelineConfigRequest}
 use Rattle.p4_types.specs.declared.messages.StreamMessageRequest.{StreamMessageRequest}
@@ -105,7 +106,7 @@ get_by : (r : Result (List ℕ) Code) (lane : ℕ) → AllBy lane (get_reply r).
 get_by (Ok message) lane = tt
 get_by (Err code) lane = tt
 
-arbitration_by : (o : Option ArbitrationRule) (c : ControlState) (lane k : ℕ) (update : MasterArbitrationUpdate) → AllBy lane (arbitration_unless o c lane k update).events
+arbitration_by : (o : Option ArbitrationRule) (c : ControlState) (lane k : ℕ) (update : ArbitrationUpdate) → AllBy lane (arbitration_unless o c lane k update).events
 arbitration_by (Some rule) c lane k update = tt
 arbitration_by None c lane k update = (same lane, tt)
 
@@ -115,7 +116,7 @@ packet_by (Err rule) lane packet = tt
 
 stream_by : (message : Option StreamMessageRequest) (c : ControlState) (lane k : ℕ) → AllBy lane (stream_answer c lane k message).events
 stream_by None c lane k = tt
-stream_by (Some (requests.Arbitration update)) c lane k = arbitration_by _ c lane k update
+stream_by (Some (requests.Arbitration update)) c lane k = arbitration_by _ c lane k (read_update update)
 stream_by (Some (requests.Packet packet)) c lane k = packet_by (packet_result c lane packet) lane packet
 stream_by (Some (requests.DigestAck acknowledged)) c lane k = tt
 stream_by (Some (requests.Other other)) c lane k = tt

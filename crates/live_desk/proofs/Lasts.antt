@@ -23,10 +23,9 @@ lanes_more left fewer n passes pass is lane h =
     ∙ h
 
 -- the pass that is opened with a worker that has seen the start alone
-pub new_pass : {E : Type 0} (list : ListName) (start : Start) (bank : BankId) (lane : ℕ) (worker : Working) (r : Result Passing E)
-    → IfOk r (λ pass. pass ≡ record { lane = lane; calls = 0; last = worker.told; worker = worker; waiting = [] }) → IsFresh list start bank worker → IfOk r (IsNew list start bank)
-new_pass list start bank lane worker (Err e) is fresh = tt
-new_pass list start bank lane worker (Ok pass) is fresh = subst (IsNew list start bank) (sym is) (record { worker = fresh; calls = refl; last = refl; nothing = refl })
+pub new_pass : (list : ListName) (start : Start) (bank : BankId) (lane : ℕ) (worker : Working) (pass : Passing)
+    → pass ≡ record { lane = lane; calls = 0; last = worker.told; worker = worker; waiting = [] } → IsFresh list start bank worker → IsNew list start bank pass
+new_pass list start bank lane worker pass is fresh = subst (IsNew list start bank) (sym is) (record { worker = fresh; calls = refl; last = refl; nothing = refl })
 
 -- no lane is left
 pub all_lanes : (left n : ℕ) (passes : List Passing) → left ≡ 0 → map (λ (p : Passing). p.lane) passes ++ lanes_below left ≡ lanes_below n → map (λ (p : Passing). p.lane) passes ≡ lanes_below n

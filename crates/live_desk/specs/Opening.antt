@@ -9,7 +9,6 @@ use Rattle.live_desk.specs.Passing.{Passing}
 use Rattle.live_desk.specs.declared.parts.Parts.{Parts}
 use Rattle.p4_types.specs.declared.events.Start.{Start}
 use Rattle.pub_snap.specs.Beginnings.{Beginning}
-use Rattle.plane_spec.specs.Entries.{slot_limit}
 use Rattle.plane_spec.specs.Planes.{opened}
 use Rattle.pub_snap.specs.Snapshots.{Feed, Sight}
 use Rattle.snap_worker.specs.Working.{Working}
@@ -59,7 +58,7 @@ pub record AreParts (start : Start) (publisher : Feed) (parts : Parts) : Type 0 
   pub viewers : AllByRecursion (SeesStart publisher.told.list start) parts.viewers.items
   pub many : 32 ≤ length parts.viewers.items
   pub few : length parts.viewers.items ≤ 48
-  pub slots : parts.bank.slots ≡ slot_limit
+  pub slots : parts.bank.slots ≡ start.slots
   pub rest_is : parts.rest ≡ first_seat parts.bank.id
   pub seat_is : parts.seat ≡ seat_of parts.table []
   pub places_are : parts.places.items ≡ seats_from parts.table 32

@@ -3,7 +3,6 @@ ghost use Rattle.std.specs.Prelude.{◌≡◌, ◌⊎◌, ◌≤◌, length, IfS
 ghost use Rattle.live_desk.specs.Mailing.{HasCalled, IsAsked};
 ghost use Rattle.live_desk.specs.Passing.{HasLearnt, HasRun, IsGiven};
 ghost use Rattle.mail_room.specs.Boxes.{IsMail};
-ghost use Rattle.plane_spec.specs.Entries.{slot_limit};
 ghost use Rattle.pub_snap.specs.Beginnings.{Begins};
 
 use crate::call_steps::CallSteps;
@@ -49,13 +48,12 @@ impl<J: Naming, R: Wait + Drop> Drop for LiveDesk<J, R> {
 impl<J: Naming, R: Wait + Drop> Model for LiveDesk<J, R> {
     ghost use Rattle.std.specs.Prelude.{◌≡◌, ◌≤◌};
     ghost use Rattle.counter_bank.specs.Account.{Opened};
-    ghost use Rattle.plane_spec.specs.Entries.{slot_limit};
 
     ghost Value = { Opened };
 
     ghost view = { λ d. d.bank };
 
-    ghost invariant = { λ d. (d.table ≡ J.table) × (d.bank.id ≡ J.bank) × (slot_limit ≤ d.bank.slots) };
+    ghost invariant = { λ d. (d.table ≡ J.table) × (d.bank.id ≡ J.bank) × (J.start.slots ≤ d.bank.slots) };
 }
 
 impl<J: Naming, R: Wait + Drop> LiveDesk<J, R> {
@@ -69,7 +67,7 @@ impl<J: Naming, R: Wait + Drop> LiveDesk<J, R> {
     ) -> LiveDesk<J, R>
         requires table { table ≡ J.table }
         requires bank { bank.id ≡ J.bank }
-        requires slots { slot_limit ≤ bank.slots }
+        requires slots { J.start.slots ≤ bank.slots }
         ensures { result ≡ bank }
     {
         LiveDesk {
@@ -101,7 +99,7 @@ impl<J: Naming, R: Wait + Drop> LiveDesk<J, R> {
     pub fn bank(&self) -> &Bank
         ensures bank { result.now ≡ self.now }
         ensures name { result.now.id ≡ J.bank }
-        ensures slots { slot_limit ≤ result.now.slots }
+        ensures slots { J.start.slots ≤ result.now.slots }
     {
         &self.bank
     }
@@ -131,21 +129,16 @@ impl<J: Naming, R: Wait + Drop> LiveDesk<J, R> {
         unreachable!()
     }
 
-    // Hands on what the pass's last packet gives to controllers.
-    fn hand_on(&self, pass: &Pass<J>) {
-        self.deliver(pass.worker.receiver(), &pass.verdict, 0);
-    }
-
     /// Makes the pass's next call, and answers its reply, of whose notices it has those for the caller; the others wait for their lanes.
     /// What the call did is published then, and the packet that it makes enter is run without the lock, by the pass's own worker, which
-    /// has learnt the call. It waits until the published list begins with all that the pass has seen or learnt, which is so at once.
-    pub fn ask(&self, pass: &mut Pass<J>, call: &Call) -> Reply
+    /// has learnt the call, into the verdict that it is lent. It waits until the published list begins with all that the pass has seen or learnt, which is so at once.
+    pub fn ask(&self, pass: &mut Pass<J>, call: &Call, verdict: &mut Verdict) -> Reply
         ensures asked { IsAsked J.start.cpu call.now result pass.old pass.new }
     {
         let reply = self.call(pass, call);
-        pass.follow(&self.rt, self.alloc, &self.bank, &reply.packet);
+        pass.follow(&self.rt, self.alloc, &self.bank, &reply.packet, verdict);
         if reply.packet.is_some() {
-            self.hand_on(pass);
+            self.deliver(pass.worker.receiver(), verdict, 0);
         }
         reply
     }

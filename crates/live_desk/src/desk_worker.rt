@@ -1,7 +1,6 @@
 //! What runs packets that come in at ports.
 ghost use Rattle.std.specs.Prelude.{◌≡◌, ◌⊎◌, ◌≤◌, length};
 ghost use Rattle.live_desk.specs.Passing.{HasRun};
-ghost use Rattle.plane_spec.specs.Entries.{slot_limit};
 ghost use Rattle.pub_snap.specs.Beginnings.{Begins};
 
 use crate::desk_told::DeskTold;
@@ -120,7 +119,7 @@ impl<J: Naming> DeskWorker<J> {
         verdict: &mut Verdict,
     )
         requires bank { bank.now.id ≡ J.bank }
-        requires slots { slot_limit ≤ bank.now.slots }
+        requires slots { J.start.slots ≤ bank.now.slots }
         requires packet { length packet.now ≤ 9216 }
         ensures ran { HasRun port packet.now self.old self.new verdict.new }
     {

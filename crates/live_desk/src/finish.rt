@@ -109,19 +109,4 @@ impl<J: Naming> ClosedDesk<J> {
         self.wait_for(rt, pass.told());
         self.table.compare(&mut self.seat, &mut pass.seat);
     }
-
-    /// The counters.
-    pub fn into_bank(self) -> Bank
-        ensures bank { result ≡ self.bank }
-        ensures name { result.id ≡ J.bank }
-    {
-        let Self {
-            table: _table,
-            seat: _seat,
-            told: _told,
-            bank,
-            of: _,
-        } = self;
-        bank
-    }
 }

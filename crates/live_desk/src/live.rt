@@ -4,7 +4,6 @@ ghost use Rattle.live_desk.specs.Locked.{Locking};
 ghost use Rattle.live_desk.specs.Mailing.{IsAnswered, IsSampled, acknowledged_by, entries_of, is_left, live_lane, mail_lane, packets_given, reply_to, settled};
 ghost use Rattle.mail_room.specs.AllMail.{Gives, IsLaneIfAny, missed, ticked};
 ghost use Rattle.mail_room.specs.Boxes.{IsMail};
-ghost use Rattle.plane_spec.specs.Entries.{slot_limit};
 ghost use Rattle.snap_worker.specs.Working.{state_after};
 ghost use Rattle.switch_spec.specs.Meaning.{receiver};
 
@@ -133,7 +132,7 @@ impl<J: Naming, R: Wait + Drop> Live<J, R> {
     ) -> Option<Reply>
         requires table { table.now ≡ J.table }
         requires bank { bank.now.id ≡ J.bank }
-        requires slots { slot_limit ≤ bank.now.slots }
+        requires slots { J.start.slots ≤ bank.now.slots }
         ensures answered { IfSome result (λ reply. IsAnswered call.now reply pass.old pass.new self.old.mail self.new.mail) }
         ensures size { IfSome result (λ reply. IfSome reply.packet (λ packet. length packet ≤ 9216)) }
         ensures kept { IfNone result (pass.new ≡ pass.old) }

@@ -5,7 +5,6 @@ ghost use Rattle.live_desk.specs.Callers.{IsCounted};
 ghost use Rattle.live_desk.specs.Mailing.{entries_of};
 ghost use Rattle.live_desk.specs.Passing.{IsCalled};
 ghost use Rattle.live_desk.specs.Locked.{AreCounted, IsSigned, figures_of, seat_of};
-ghost use Rattle.plane_spec.specs.Entries.{slot_limit};
 ghost use Rattle.plane_spec.specs.Planes.{opened, applied};
 ghost use Rattle.pub_snap.specs.Beginnings.{Begins, IsLonger};
 ghost use Rattle.pub_snap.specs.Snapshots.{all_of};
@@ -182,7 +181,7 @@ impl<J: Naming, R: Wait + Drop> Locked<J, R> {
     /// The slot of the counters that is drawn next.
     pub fn next_slot(&self) -> u32
         ensures slot { result ≡ (state_after self.now.told).next_slot }
-        ensures limit { result ≤ slot_limit }
+        ensures limit { result ≤ J.start.slots }
     {
         self.control.image().next_slot()
     }
@@ -233,7 +232,7 @@ impl<J: Naming, R: Wait + Drop> Locked<J, R> {
     ) -> Reply
         requires table { table.now ≡ J.table }
         requires bank { bank.now.id ≡ J.bank }
-        requires slots { slot_limit ≤ bank.now.slots }
+        requires slots { J.start.slots ≤ bank.now.slots }
         requires begins { Begins pass.old.worker.told self.old.told }
         ensures called { IsCalled call.now result pass.old pass.new }
         ensures size { IfSome result.packet (λ packet. length packet ≤ 9216) }
@@ -258,7 +257,7 @@ impl<J: Naming, R: Wait + Drop> Locked<J, R> {
     ) -> Option<Reply>
         requires table { table.now ≡ J.table }
         requires bank { bank.now.id ≡ J.bank }
-        requires slots { slot_limit ≤ bank.now.slots }
+        requires slots { J.start.slots ≤ bank.now.slots }
         ensures called { IfSome result (λ reply. IsCalled call.now reply pass.old pass.new) }
         ensures size { IfSome result (λ reply. IfSome reply.packet (λ packet. length packet ≤ 9216)) }
         ensures told { IfSome result (λ reply. self.new.told ≡ pass.new.last) }

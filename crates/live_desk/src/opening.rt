@@ -4,7 +4,6 @@ ghost use Rattle.std.specs.List.{AllByRecursion};
 ghost use Rattle.counter_bank.specs.Account.{first_seat};
 ghost use Rattle.lane_table.specs.Lanes.{seats_from};
 ghost use Rattle.live_desk.specs.Opening.{AreParts, IsFresh, IsNew, SeesStart, lanes_below};
-ghost use Rattle.plane_spec.specs.Entries.{slot_limit};
 
 use crate::call_steps::CallSteps;
 use crate::desk::LiveDesk;
@@ -69,7 +68,7 @@ pub fn open_desk<J: Naming, R: Wait + Drop>(
     requires list { publisher.told.list ≡ J.list }
     requires bank { parts.bank.id ≡ J.bank }
     requires table { parts.table ≡ J.table }
-    ensures slots { IfOk result (λ r. r.0.slots ≡ slot_limit) }
+    ensures slots { IfOk result (λ r. r.0.slots ≡ start.slots) }
     ensures lanes { IfOk result (λ r. map (λ pass. pass.lane) r.1.0.items ≡ lanes_below 32) }
     ensures passes { IfOk result (λ r. AllByRecursion (IsNew J.list J.start J.bank) r.1.0.items) }
     ensures workers { IfOk result (λ r. AllByRecursion (IsFresh J.list J.start J.bank) r.1.1.items) }

@@ -1,7 +1,6 @@
 //! What makes the calls of a caller.
-ghost use Rattle.std.specs.Prelude.{◌≡◌, ◌⊎◌, ◌<◌, ◌≤◌, [], drop, length, slice_get, IfOk, IfSome};
+ghost use Rattle.std.specs.Prelude.{◌≡◌, ◌⊎◌, ◌<◌, ◌≤◌, [], drop, length, slice_get, IfSome};
 ghost use Rattle.live_desk.specs.Passing.{HasFollowed};
-ghost use Rattle.plane_spec.specs.Entries.{slot_limit};
 ghost use Rattle.pub_snap.specs.Beginnings.{Begins};
 
 use crate::call_steps::CallSteps;
@@ -11,7 +10,7 @@ use crate::naming::Naming;
 use crate::running::{keep_outputs, run_alone};
 use counter_bank::Bank;
 use lane_table::LaneSeat;
-use list_types::{ByteList, NoMemory};
+use list_types::ByteList;
 use p4_types::records::Output;
 use pkt_worker::Verdict;
 use pub_snap::Told;
@@ -29,7 +28,6 @@ pub struct Pass<J: Naming> {
     pub(crate) seat: LaneSeat<CallSteps>,
     pub(crate) last: Told,
     pub(crate) worker: Worker,
-    pub(crate) verdict: Verdict,
     waiting: VecDeque<Output>,
     of: PhantomData<J>,
 }
@@ -69,7 +67,6 @@ impl<J: Naming> Drop for Pass<J> {
             seat: _seat,
             last: _last,
             worker: _worker,
-            verdict: _verdict,
             waiting: _waiting,
             of: _,
         } = self;
@@ -77,36 +74,33 @@ impl<J: Naming> Drop for Pass<J> {
 }
 
 impl<J: Naming> Pass<J> {
-    /// The pass of a lane that has made no call, whose worker has seen the start of the list alone. It takes the memory that a packet
-    /// needs while it runs.
+    /// The pass of a lane that has made no call, whose worker has seen the start of the list alone. It takes no memory.
     pub fn open(
         alloc: Global,
         lane: u16,
         cpu: u16,
         seat: LaneSeat<CallSteps>,
         worker: DeskWorker<J>,
-    ) -> Result<Pass<J>, NoMemory>
+    ) -> Pass<J>
         requires table { seat.table ≡ J.table }
         requires number { seat.number ≡ lane }
         requires lane { lane < 32 }
         requires cpu { cpu ≡ J.start.cpu }
         requires nothing { seat.entries ≡ [] }
         requires events { worker.told.events ≡ [] }
-        ensures { IfOk result (λ pass. pass ≡ record { lane = lane; calls = 0; last = worker.told; worker = worker; waiting = [] }) }
+        ensures { result ≡ record { lane = lane; calls = 0; last = worker.told; worker = worker; waiting = [] } }
     {
-        let verdict = Verdict::open(alloc)?;
         let worker = worker.into_worker();
         let last = worker.told().again();
-        Ok(Pass {
+        Pass {
             lane,
             cpu,
             seat,
             last,
             worker,
-            verdict,
             waiting: VecDeque::new(alloc),
             of: PhantomData,
-        })
+        }
     }
 
     /// The caller's lane, 0 to 31.
@@ -143,17 +137,18 @@ impl<J: Naming> Pass<J> {
         self.worker.learn(told.as_told());
     }
 
-    /// Runs the packet that the last call made enter, if it made one, of at most 9,216 bytes. What leaves waits in the pass. It asks
-    /// again where there is no snapshot to enter, or no memory for what leaves.
+    /// Runs the packet that the last call made enter, if it made one, of at most 9,216 bytes, into the verdict that it is lent. What
+    /// leaves waits in the pass. It asks again where there is no snapshot to enter, or no memory for what leaves.
     pub(crate) fn follow<R: Wait>(
         &mut self,
         rt: &R,
         alloc: Global,
         bank: &Bank,
         packet: &Option<ByteList>,
+        verdict: &mut Verdict,
     )
         requires bank { bank.now.id ≡ J.bank }
-        requires slots { slot_limit ≤ bank.now.slots }
+        requires slots { J.start.slots ≤ bank.now.slots }
         requires packet { IfSome packet.now (λ packet. length packet ≤ 9216) }
         ensures followed { HasFollowed packet.now J.start.cpu self.old self.new }
     {
@@ -166,9 +161,9 @@ impl<J: Naming> Pass<J> {
             &mut self.worker,
             self.cpu,
             packet.as_slice(),
-            &mut self.verdict,
+            verdict,
         );
-        keep_outputs(rt, alloc, &self.verdict, &mut self.waiting);
+        keep_outputs(rt, alloc, verdict, &mut self.waiting);
     }
 
     /// Takes what waits longest of what the pass's packets made leave.
@@ -189,7 +184,6 @@ impl<J: Naming> Pass<J> {
             seat: _seat,
             last: _last,
             worker,
-            verdict: _verdict,
             waiting: _waiting,
             of: _,
         } = self;

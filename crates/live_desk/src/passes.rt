@@ -58,14 +58,14 @@ fn next_pass<J: Naming>(
     cpu: u16,
     places: &mut Vec<LaneSeat<CallSteps>>,
     workers: &mut Vec<DeskWorker<J>>,
-) -> Result<Pass<J>, NoMemory>
+) -> Pass<J>
     requires lane { lane < 32 }
     requires cpu { cpu ≡ J.start.cpu }
     requires places { places.old.items ≡ seats_from J.table (lane + 1) }
     requires workers { AllByRecursion (IsFresh J.list J.start J.bank) workers.old.items }
     requires some { 0 < length workers.old.items }
-    ensures lane { IfOk result (λ pass. pass.lane ≡ lane) }
-    ensures pass { IfOk result (IsNew J.list J.start J.bank) }
+    ensures lane { result.lane ≡ lane }
+    ensures pass { IsNew J.list J.start J.bank result }
     ensures places { places.new.items ≡ seats_from J.table lane }
     ensures workers { AllByRecursion (IsFresh J.list J.start J.bank) workers.new.items }
     ensures fewer { length workers.old.items ≡ length workers.new.items + 1 }
@@ -96,7 +96,7 @@ pub(crate) fn open_passes<J: Naming>(
     let mut lane: u16 = 32;
     'lanes: while lane > 0 {
         lane -= 1;
-        let pass = next_pass(alloc, lane, cpu, &mut places, workers)?;
+        let pass = next_pass(alloc, lane, cpu, &mut places, workers);
         passes.push(pass)?;
     }
     Ok(passes)

@@ -1,7 +1,6 @@
 //! A packet that is run until there is a snapshot to run it on, and what it makes leave.
 ghost use Rattle.std.specs.Prelude.{◌≡◌, ◌≤◌, ◌++◌, length, OnOk, OnErr};
 ghost use Rattle.live_desk.specs.Passing.{HasRun};
-ghost use Rattle.plane_spec.specs.Entries.{slot_limit};
 
 use counter_bank::Bank;
 use list_types::NoMemory;
@@ -24,7 +23,7 @@ pub(crate) fn run_at_last<R: Wait>(
     verdict: &mut Verdict,
 )
     requires bank { worker.old.seat.bank ≡ bank.now.id }
-    requires slots { slot_limit ≤ bank.now.slots }
+    requires slots { worker.old.told.start.slots ≤ bank.now.slots }
     requires packet { length packet.now ≤ 9216 }
     ensures ran { HasRun port packet.now worker.old worker.new verdict.new }
     ensures bank { worker.new.seat.bank ≡ worker.old.seat.bank }
@@ -48,7 +47,7 @@ pub(crate) fn run_alone<R: Wait>(
     verdict: &mut Verdict,
 )
     requires bank { worker.old.seat.bank ≡ bank.now.id }
-    requires slots { slot_limit ≤ bank.now.slots }
+    requires slots { worker.old.told.start.slots ≤ bank.now.slots }
     requires packet { length packet.now ≤ 9216 }
     ensures ran { HasRun port packet.now worker.old worker.new verdict.new }
     ensures bank { worker.new.seat.bank ≡ worker.old.seat.bank }

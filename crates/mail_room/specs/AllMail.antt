@@ -1,6 +1,6 @@
 -- What waits for all controllers, and the digests whose lists they are sent (this project's profile).
 use Rattle.std.specs.Prelude.{◌≡◌, ℕ, ◌+◌, ◌-◌, ◌^◌, ◌<◌, ◌==◌, nat_lt, min, if◌then◌else◌, Bool, true, false, List, [], filter, replicate, slice_index_or, slice_set, Option, Some, None}
-use Rattle.std.specs.List.{fold, list_any}
+use Rattle.std.specs.List.{fold}
 use Rattle.p4_types.specs.declared.calls.Notice.{Notice}
 use Rattle.p4_types.specs.declared.messages.DigestList.{DigestList}
 use Rattle.p4_types.specs.declared.messages.P4Data.{P4Data}
@@ -68,11 +68,6 @@ module _ {T : Type 0} where
   -- a packet or a digest list to a lane
   abbrev pub sent_to : MailState T → ℕ → StreamMessageResponse → MailState T
   sent_to mail lane message = with_box mail lane (after_packet (box_at mail lane) message)
-
-  -- a packet for the controller of a lane, which gets it where it is live
-  abbrev pub packet_in : MailState T → Option ℕ → PacketIn → List ℕ → MailState T
-  packet_in mail None packet live = mail
-  packet_in mail (Some lane) packet live = if list_any (λ other. other == lane) live then sent_to mail lane (Packet packet) else mail
 
   -- packets for the controller of a lane, one after another
   abbrev pub packets_to : ℕ → MailState T → List PacketIn → MailState T

@@ -3,7 +3,7 @@ ghost use Rattle.std.specs.Prelude.{◌≡◌, ◌≢◌, ◌⊎◌, [], false, 
 ghost use Rattle.std.specs.Option.{option_copied};
 ghost use Rattle.digest_lists.specs.Fold.{HasRoom, IsTaken, set_digest, set_to, acknowledge};
 ghost use Rattle.mail_room.specs.Boxes.{IsMail, empty_box};
-ghost use Rattle.mail_room.specs.AllMail.{IsLane, IsLaneIfAny, no_mail, with_box, with_lists, missed, notified, posted, posted_one, own_notices, sent_to, packet_in, packets_to, list_to, sampled, ticked, Gives, IsDoneOrMissed};
+ghost use Rattle.mail_room.specs.AllMail.{IsLane, IsLaneIfAny, no_mail, with_box, with_lists, missed, notified, posted, posted_one, own_notices, sent_to, packets_to, list_to, sampled, ticked, Gives, IsDoneOrMissed};
 
 use crate::again::Again;
 use crate::mailbox::Mailbox;
@@ -160,21 +160,8 @@ impl<T: Drop> Mail<T> {
         self.boxes[usize::from(lane)].put_packet(message);
     }
 
-    /// Puts a packet behind what waits for its lane, where that is one of the live lanes. It is dropped where `PACKET_LIMIT` messages or more wait,
+    /// Puts packets behind what waits for a lane, one after another. Each is dropped where `PACKET_LIMIT` messages or more wait,
     /// or an overflow is due.
-    pub fn deliver_packet(&mut self, lane: Option<u16>, packet: PacketIn, live: &[u16])
-        requires { All IsLane live.now }
-        ensures { self.new ≡ packet_in self.old lane packet live.now }
-    {
-        let Some(lane) = lane else {
-            return;
-        };
-        if live.contains(&lane) {
-            self.send(lane, StreamMessageResponse::Packet(packet));
-        }
-    }
-
-    /// Puts packets behind what waits for a lane, one after another, each as `deliver_packet` does.
     pub fn deliver_packets(&mut self, lane: u16, packets: List<PacketIn>)
         requires { IsLane lane }
         ensures { self.new ≡ packets_to lane self.old packets }

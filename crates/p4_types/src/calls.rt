@@ -1,8 +1,9 @@
 //! What controllers ask, and what they are answered.
 use crate::code::Code;
+use crate::ids::Ids;
 use crate::messages::{
     GetForwardingPipelineConfigRequest, ReadRequest, SetForwardingPipelineConfigRequest,
-    StreamMessageRequest, StreamMessageResponse, WriteRequest,
+    StreamMessageRequest, StreamMessageResponse, Uint128, WriteRequest,
 };
 use list_types::{ByteList, List};
 
@@ -16,6 +17,16 @@ pub enum Method {
     GetForwardingPipelineConfig = 4,
     StreamChannel = 5,
     Capabilities = 6,
+}
+
+/// What an arbitration asks for, with its role's configuration read (P4Runtime 1.3.0, "Mastership Arbitration", "Role Config").
+#[derive(Drop)]
+pub struct ArbitrationUpdate {
+    /// 0 where it names no role.
+    pub role: u64,
+    pub election_id: Uint128,
+    /// The ids that the role may write, or `Some(None)` where it may write all; `None` where its configuration is not read.
+    pub config: Option<Option<Ids>>,
 }
 
 /// How the updates of a Write stand together (P4Runtime 1.3.0, "Batching and Ordering of Updates").

@@ -5,9 +5,6 @@ use crate::shared::Shared;
 use crate::table::Change;
 use list_types::List;
 
-/// How many slots of counters a switch has: as many are drawn at most, of all planes together, as long as it runs.
-pub const SLOT_LIMIT: u32 = 1_048_576;
-
 /// With what a switch starts.
 #[derive(Clone, Copy)]
 pub struct Start {
@@ -16,6 +13,8 @@ pub struct Start {
     pub cpu: u16,
     /// How many rows the tables have together, 1,024 to 262,144.
     pub rows: u32,
+    /// How many slots of counters there are, at most 1,048,576: as many are drawn at most, of all planes together, as long as it runs.
+    pub slots: u32,
     /// Whether the built-in bridge is the active program and controller lane 0 its live primary.
     pub bridge: bool,
 }

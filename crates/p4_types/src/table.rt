@@ -164,11 +164,13 @@ pub enum Change {
     Digest(DigestChange),
 }
 
-/// What is left to be drawn: rows, slots of counters, and sequence numbers, of which the next is the
-/// greatest of 64 bits less those that are left.
+/// What is left to be drawn, and what is drawn next: rows, slots of counters, stamps of when entries were hit, and sequence
+/// numbers, of which the next is the greatest of 64 bits less those that are left.
 #[derive(Clone, Copy)]
 pub struct Room {
     pub rows: u32,
     pub slots: u32,
+    pub next_slot: u32,
+    pub next_stamp: u32,
     pub numbers: u64,
 }

@@ -67,7 +67,6 @@ pub record IsIndexOf (info : Info) (index : Index) : Type 0 where
   pub actions : ArePlaces (λ x. x.preamble.id) info.actions index.actions
   pub action_profiles : ArePlaces (λ x. x.preamble.id) info.action_profiles index.action_profiles
   pub counters : ArePlaces (λ x. x.preamble.id) info.counters index.counters
-  pub direct_counters : ArePlaces (λ x. x.preamble.id) info.direct_counters index.direct_counters
   pub digests : ArePlaces (λ x. x.preamble.id) info.digests index.digests
 
 -- what a message without a flaw means

@@ -14,7 +14,6 @@ pub(crate) struct Index {
     pub(crate) actions: BTreeMap<u32, usize>,
     pub(crate) action_profiles: BTreeMap<u32, usize>,
     pub(crate) counters: BTreeMap<u32, usize>,
-    pub(crate) direct_counters: BTreeMap<u32, usize>,
     pub(crate) digests: BTreeMap<u32, usize>,
 }
 
@@ -29,7 +28,6 @@ impl Index {
             actions: places::places_of(alloc, info.actions.as_slice())?,
             action_profiles: places::places_of(alloc, info.action_profiles.as_slice())?,
             counters: places::places_of(alloc, info.counters.as_slice())?,
-            direct_counters: places::places_of(alloc, info.direct_counters.as_slice())?,
             digests: places::places_of(alloc, info.digests.as_slice())?,
         })
     }

@@ -97,15 +97,6 @@ impl P4Info {
         places::found(&self.index.counters, self.info.counters.as_slice(), id)
     }
 
-    /// The direct counter with an id.
-    pub fn direct_counter(&self, id: u32) -> Option<&DirectCounter>
-        ensures found { option_copied result ≡ direct_counter_at self.now id }
-        ensures valid { IfSome result (λ counter. IsValidDirectCounter self.now counter.now) }
-    {
-        let counters = self.info.direct_counters.as_slice();
-        places::found(&self.index.direct_counters, counters, id)
-    }
-
     /// The digest with an id.
     pub fn digest(&self, id: u32) -> Option<&Digest>
         ensures found { option_copied result ≡ digest_at self.now id }

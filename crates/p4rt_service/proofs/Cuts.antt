@@ -39,7 +39,7 @@ flushed_from lane calls (Broken code output) sent = ap (λ x. record { link = re
 flushed_from lane calls OutOfMemory sent = ap (λ x. record { link = record { lane = lane; calls = calls; conn = OutOfMemory }; sent = x }) (append-nil (sent ++ []))
 
 -- flushing twice is flushing once
-flushed_twice : (served : Served) → flushed (flushed served) ≡ flushed served
+pub flushed_twice : (served : Served) → flushed (flushed served) ≡ flushed served
 flushed_twice served = flushed_from served.link.lane served.link.calls served.link.conn served.sent
 
 -- what is flushed first does the same

@@ -1,5 +1,5 @@
 -- A link over all that happens to it, and all that is sent on it.
-use Rattle.std.specs.Prelude.{◌≡◌, ℕ, Bool, true, false, List, [], ◌++◌, Option, Some, None, Result, Ok, Err}
+use Rattle.std.specs.Prelude.{◌≡◌, ℕ, Bool, true, false, List, [], ◌++◌, take, Option, Some, None, Result, Ok, Err}
 use Rattle.list_types.specs.declared.memory.NoMemory.{NoMemory}
 use Rattle.h2_frames.specs.declared.codes.H2Code.{H2Code}
 use Rattle.h2_conn.specs.Bytes.{code_of, opening, output_of, without_output}
@@ -46,6 +46,11 @@ byte_served byte served = byte_taken byte (flushed served).link >>= on_link (flu
 -- bytes, one after another
 abbrev pub piece_served : List ℕ → Served → Dialogue Served
 piece_served piece served = each byte_served piece served >>= λ end. Ends (flushed end)
+
+-- The first bytes of a piece, so many, are served; or, for want of memory, the piece is begun.
+abbrev pub NotesSome : {P : Type 0} → (P → Call → Reply → P → Type 0) → P → P → Bool → Bool → Result ℕ NoMemory → List ℕ → Served → Served → Type 0
+NotesSome answers old new before after (Ok used) piece start end = Held (noting answers) (old, before) (new, after) (each byte_served (take used piece) start) end
+NotesSome answers old new before after (Err e) piece start end = Begun (noting answers) (old, before) (new, after) (each byte_served piece start)
 
 -- the open channel, if there is one, closed by RESOURCE_EXHAUSTED, unless a breach has ended the connection
 abbrev pub closed_for_room : Option ℕ → Option H2Code → Link → Dialogue Link

@@ -1,8 +1,8 @@
 //! What events of the connection do.
-ghost use Rattle.std.specs.Prelude.{◌≡◌, OnOk, IfOk};
-ghost use Rattle.h2_conn.specs.Bytes.{next};
+ghost use Rattle.std.specs.Prelude.{◌≡◌, ◌≤◌, ◌<◌, length, take, OnOk, IfOk};
+ghost use Rattle.h2_conn.specs.Bytes.{run, AreQuietToLast};
 ghost use Rattle.p4rt_service.specs.Dialogues.{each, Notes};
-ghost use Rattle.p4rt_service.specs.Serving.{calls_after, given_by, event_taken, byte_taken};
+ghost use Rattle.p4rt_service.specs.Serving.{calls_after, given_by, event_taken};
 
 use crate::answering::serve_events;
 use crate::desk::Desk;
@@ -36,7 +36,8 @@ fn take_event<D: Desk>(
     serve_events(alloc, events, link, desk, pass, due)
 }
 
-fn take_events<D: Desk>(
+/// What events of the connection do, one after another.
+pub(crate) fn take_events<D: Desk>(
     alloc: Global,
     events: List<H2Event>,
     link: &mut Link,
@@ -54,28 +55,18 @@ fn take_events<D: Desk>(
     Ok(())
 }
 
-// What a byte gives of the connection.
-fn read_byte(alloc: Global, byte: u8, link: &mut Link) -> Result<List<H2Event>, NoMemory>
-    ensures link { OnOk result (link.new ≡ record link.old { conn = (next link.old.conn byte).0 }) }
-    ensures given { IfOk result (λ events. events ≡ (next link.old.conn byte).1) }
-{
-    let (events, _) = link.conn.feed(alloc, &[byte])?;
-    Ok(events)
-}
-
-/// What a byte does.
-pub(crate) fn take_byte<D: Desk>(
+/// What the next bytes of a piece give of the connection, and how many these are. Only the last of them
+/// gives anything.
+pub(crate) fn read_some(
     alloc: Global,
-    byte: u8,
+    piece: &[u8],
     link: &mut Link,
-    desk: &D,
-    pass: &mut D::Pass,
-    due: &mut bool,
-) -> Result<(), NoMemory>
-    requires { D.is_of desk.now pass.old }
-    ensures of { D.is_of desk.now pass.new }
-    ensures held { Notes D.answers pass.old pass.new due.old due.new result (byte_taken byte link.old) link.new }
+) -> Result<(usize, List<H2Event>), NoMemory>
+    ensures within { IfOk result (λ x. (x.0 ≤ length piece.now) × (0 < length piece.now → 0 < x.0)) }
+    ensures link { IfOk result (λ x. link.new ≡ record link.old { conn = (run link.old.conn (take x.0 piece.now)).0 }) }
+    ensures given { IfOk result (λ x. x.1 ≡ (run link.old.conn (take x.0 piece.now)).1) }
+    ensures quiet { IfOk result (λ x. AreQuietToLast link.old.conn (take x.0 piece.now)) }
 {
-    let events = read_byte(alloc, byte, link)?;
-    take_events(alloc, events, link, desk, pass, due)
+    let (used, events, _) = link.conn.feed_some(alloc, piece)?;
+    Ok((used, events))
 }

@@ -5,3 +5,4 @@ pub mod TellLemmas
 pub mod Unbegun
 pub mod Unfinished
 pub mod Serving
+pub mod Slots

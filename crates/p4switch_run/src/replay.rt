@@ -1,5 +1,5 @@
 //! A tape is read, run and reported.
-ghost use Rattle.std.specs.Prelude.{◌≤◌, IfOk, All};
+ghost use Rattle.std.specs.Prelude.{◌≡◌, ◌≤◌, IfOk, All};
 ghost use Rattle.tape_spec.specs.Items.{IsItem, AreItems, no_item_lanes};
 ghost use Rattle.byte_lanes.specs.Filling.{IsItemLockstepReport, IsItemFreeReport};
 ghost use Rattle.p4switch_run.specs.Replay.{Answers, IsReportIn, streams};
@@ -35,6 +35,7 @@ fn text_freely<T: Threads + Wait + Sync>(
     start: Start,
     tape: Tape,
 ) -> Result<ByteList, NoMemory>
+    requires slots { start.slots ≡ 1048576 }
     ensures { IfOk result (IsItemFreeReport start tape) }
 {
     if tape.brings_bytes() {
@@ -53,6 +54,7 @@ fn text_of<T: Threads + Wait + Sync>(
     start: Start,
     tape: Tape,
 ) -> Result<ByteList, NoMemory>
+    requires slots { start.slots ≡ 1048576 }
     ensures { IfOk result (IsReportIn mode start tape) }
 {
     match mode {
@@ -70,6 +72,7 @@ pub fn replay<T: Threads + Wait + Sync, S: Source, O: Sink>(
     tape: &mut S,
     out: &mut O,
 ) -> Status
+    requires slots { start.slots ≡ 1048576 }
     ensures answers { Answers mode start result
         (streams (S.left tape.old) (O.sent out.old) (S.faults tape.old) (O.faults out.old) (S.ends tape.old))
         (streams (S.left tape.new) (O.sent out.new) (S.faults tape.new) (O.faults out.new) (S.ends tape.new)) }

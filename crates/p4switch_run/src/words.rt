@@ -1,7 +1,7 @@
 //! What the words of the command line ask for.
 ghost use Rattle.std.specs.Prelude.{◌≡◌, IfErr, IfOk, is_some, map, true};
 ghost use Rattle.command_words.specs.Words.{command_of};
-ghost use Rattle.p4switch_run.specs.Words.{built};
+ghost use Rattle.p4switch_run.specs.Words.{built, HasSlots};
 
 use command_words::command_of;
 use command_words::words::{Command, Mode, tested};
@@ -46,8 +46,10 @@ pub fn built(command: Option<Command>) -> Option<Job>
 }
 
 /// What the words ask for, if they are a command that is built. Other words are refused also where memory is out.
+#[tactic(auto, using(crate::proofs::Slots::has_slots))]
 pub fn job_of(alloc: Global, words: &[&str]) -> Result<Option<Job>, NoMemory>
     ensures job { IfOk result (λ job. job ≡ built (command_of (map (λ word. word.now) words.now))) }
+    ensures slots { IfOk result HasSlots }
     ensures memory { IfErr result (λ _. is_some (built (command_of (map (λ word. word.now) words.now))) ≡ true) }
 {
     if built(tested(words)).is_none() {

@@ -2,13 +2,13 @@
 use Rattle.std.proofs.Common.{◌≡◌, ℕ, zero, suc, ◌<◌, ◌≤◌, true, false, List, [], ◌∷◌, ◌++◌, length, Option, Some, None, refl, sym, subst, arith, nat_le, length-append}
 use Rattle.std.specs.Result.{result_ok}
 use Rattle.std.proofs.lemmas.Bool.Decides.{nat_tests}
-use Rattle.wire_fields.specs.Reading.{varint_at}
+use Rattle.wire_fields.specs.Reading.{varint_at, varint_in}
 use Rattle.list_types.specs.Options.{◌>>=◌}
 use Rattle.wire_messages.specs.Message.{packed_in}
 use Rattle.wire_messages.specs.Numbers.{as_uint32}
 use Rattle.wire_messages.specs.Scans.{packed_from}
 use Rattle.wire_messages.proofs.Packed.{Packed}
-use Rattle.p4v1_read.specs.RoleConfigs.{at_most_128, ids_in}
+use Rattle.p4v1_read.specs.RoleConfigs.{at_most_128, ids_in, OneIdIsRead}
 
 clash : (values : List ℕ) → None ≡ Some values → ⊥
 clash values e = cc
@@ -70,3 +70,8 @@ full_is found few full = grind (arith, nat_tests)
 
 pub more_are_few : (found : List ℕ) (id : ℕ) → nat_le 128 (length found) ≡ false → length (found ++ id ∷ []) ≤ 128
 more_are_few found id free = let room : length found < 128 = grind (arith, nat_tests) in omega (arith, length-append found (id ∷ []))
+
+-- one id, computed
+pub one_id_is_read : OneIdIsRead
+unfolding packed_in varint_in
+one_id_is_read = refl

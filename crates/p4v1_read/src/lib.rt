@@ -13,4 +13,4 @@ mod stream;
 pub use calls::read_call;
 pub use p4infos::read_p4info;
 pub use requests::read_config;
-pub use role_configs::role_config_of;
+pub use role_configs::{arbitration_update, role_config_of};

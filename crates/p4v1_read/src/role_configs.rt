@@ -1,11 +1,12 @@
 //! The configuration of a role.
 ghost use Rattle.std.specs.Prelude.{◌≡◌};
 ghost use Rattle.wire_messages.specs.Answers.{Reads};
-ghost use Rattle.p4v1_read.specs.RoleConfigs.{ids_in, ids_of, role_config_of};
+ghost use Rattle.p4v1_read.specs.RoleConfigs.{ids_in, ids_of, role_config_of, role_of, read_update};
 ghost use Rattle.wire_messages.specs.Numbers.{as_uint32};
 
+use p4_types::calls::ArbitrationUpdate;
 use p4_types::ids::Ids;
-use p4_types::messages::{Any, Role};
+use p4_types::messages::{Any, MasterArbitrationUpdate, Role};
 use wire_fields::varint;
 use wire_messages::Unreadable;
 
@@ -68,4 +69,27 @@ pub fn role_config_of(role: &Option<Role>) -> Result<Option<Ids>, Unreadable>
         return Err(Unreadable);
     }
     Ok(Some(ids_of(config)?))
+}
+
+fn role_of(role: &Option<Role>) -> u64
+    ensures { result ≡ role_of role.now }
+{
+    match role {
+        None => 0,
+        Some(role) => role.id,
+    }
+}
+
+/// What an update asks for, with its role's configuration read.
+pub fn arbitration_update(update: &MasterArbitrationUpdate) -> ArbitrationUpdate
+    ensures { result ≡ read_update update.now }
+{
+    ArbitrationUpdate {
+        role: role_of(&update.role),
+        election_id: update.election_id,
+        config: match role_config_of(&update.role) {
+            Ok(config) => Some(config),
+            Err(Unreadable) => None,
+        },
+    }
 }

@@ -142,6 +142,16 @@ impl Verdict {
         self.hits.as_slice()
     }
 
+    /// How many packets leave at ports.
+    pub fn output_count(&self) -> usize
+        ensures { result ≡ length self.now.outputs }
+    {
+        match self.ending {
+            Ending::ToPort(_) => 1,
+            _ => 0,
+        }
+    }
+
     /// What leaves at ports, by its place: the port and the bytes.
     pub fn output(&self, place: usize) -> Option<(u16, &[u8])>
         ensures { option_map (λ output. record { port = output.0; bytes = output.1.now }) result ≡ slice_get self.now.outputs place }

@@ -8,7 +8,7 @@ ghost use Rattle.bm_pipeline.specs.Validity.{IsNode, IsValid};
 ghost use Rattle.packet_spec.specs.Walking as spec;
 ghost use Rattle.pkt_codec.specs.Room.{HasRoom, AreAsLarge};
 ghost use Rattle.pkt_walk.specs.Turns.{walk_at, walk_behind};
-ghost use Rattle.plane_spec.specs.Entries.{slot_limit};
+ghost use Rattle.plane_spec.specs.Entries.{slot_numbers};
 ghost use Rattle.pkt_worker.specs.Hits.{counted_by, hits_behind};
 ghost use Rattle.pkt_worker.specs.Slots.{HasSlots};
 ghost use Rattle.pkt_worker.specs.Verdicts.{hits_room, walk_room};
@@ -25,7 +25,7 @@ use plane_state::Plane;
 
 // How many cells these counters have.
 fn cells_of(counters: &[Counter]) -> u64
-    requires few { sum_by (λ counter. counter.size) counters.now ≤ slot_limit }
+    requires few { sum_by (λ counter. counter.size) counters.now ≤ slot_numbers }
     ensures { result ≡ sum_by (λ counter. counter.size) counters.now }
 {
     let mut cells = 0;

@@ -11,9 +11,9 @@ no_cells : cells_in bridge_config ≡ 0
 unfolding bridge_info
 no_cells = refl
 
-pub opened_numbered : (bridge : Bool) (device cpu rows : ℕ) (roles : RolesState)
-    → IsNumbered (control_of device cpu rows roles (if bridge then Some (made_plane 0 bridge_config) else None) None 1 0 false)
-opened_numbered true device cpu rows roles = record {
+pub opened_numbered : (bridge : Bool) (device cpu rows most : ℕ) (roles : RolesState)
+    → IsNumbered (control_of device cpu rows most roles (if bridge then Some (made_plane 0 bridge_config) else None) None 1 0 false)
+opened_numbered true device cpu rows most roles = record {
   active = All-nil _;
   staged = tt;
   active_cells = omega (arith, no_cells);
@@ -21,7 +21,7 @@ opened_numbered true device cpu rows roles = record {
   numbers = omega arith;
   slots = omega arith;
 }
-opened_numbered false device cpu rows roles = record {
+opened_numbered false device cpu rows most roles = record {
   active = tt;
   staged = tt;
   active_cells = tt;

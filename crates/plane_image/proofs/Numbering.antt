@@ -57,33 +57,33 @@ has_left table room plane change none =
     record { numbers = not_lower room.numbers 1 parts.1; slots = not_lower room.slots (slots_drawn table) parts.0 }
 
 -- what a change draws is left
-pub record IsLeft (next slot : ℕ) (drawn drawn_slots : ℕ) : Type 0 where
+pub record IsLeft (next slot most : ℕ) (drawn drawn_slots : ℕ) : Type 0 where
   pub numbers : next + drawn ≤ 2 ^ 64 - 1
-  pub slots : slot + drawn_slots ≤ 1048576
+  pub slots : slot + drawn_slots ≤ most
 
-nothing_drawn : (next slot : ℕ) → next ≤ 2 ^ 64 - 1 → slot ≤ 1048576 → IsLeft next slot 0 0
-nothing_drawn next slot few low = record { numbers = omega (arith, few); slots = omega (arith, low) }
+nothing_drawn : (next slot most : ℕ) → next ≤ 2 ^ 64 - 1 → slot ≤ most → IsLeft next slot most 0 0
+nothing_drawn next slot most few low = record { numbers = omega (arith, few); slots = omega (arith, low) }
 
-left_by_insert : (o : Option Table) (room : Room) (plane : Plane) (change : EntryChange) (next slot : ℕ) → next ≤ 2 ^ 64 - 1 → slot ≤ 1048576 → room.numbers ≡ 2 ^ 64 - 1 - next → room.slots ≡ 1048576 - slot
-    → insert_cause_in o room plane change ≡ None → IsLeft next slot (drawn_by_insert o).numbers (drawn_by_insert o).slots
-left_by_insert None room plane change next slot few low numbers slots none = nothing_drawn next slot few low
-left_by_insert (Some table) room plane change next slot few low numbers slots none =
+left_by_insert : (o : Option Table) (room : Room) (plane : Plane) (change : EntryChange) (next slot most : ℕ) → next ≤ 2 ^ 64 - 1 → slot ≤ most → room.numbers ≡ 2 ^ 64 - 1 - next → room.slots ≡ most - slot
+    → insert_cause_in o room plane change ≡ None → IsLeft next slot most (drawn_by_insert o).numbers (drawn_by_insert o).slots
+left_by_insert None room plane change next slot most few low numbers slots none = nothing_drawn next slot most few low
+left_by_insert (Some table) room plane change next slot most few low numbers slots none =
     let left = has_left table room plane change none in
     record { numbers = omega (arith, left.numbers, numbers, few); slots = omega (arith, left.slots, slots, low) }
 
-left_by : (change : Change) (room : Room) (plane : Plane) (next slot : ℕ) → next ≤ 2 ^ 64 - 1 → slot ≤ 1048576 → room.numbers ≡ 2 ^ 64 - 1 - next → room.slots ≡ 1048576 - slot
-    → change_cause room plane change ≡ None → IsLeft next slot (drawn_by plane change).numbers (drawn_by plane change).slots
-left_by (changes.InsertEntry change) room plane next slot few low numbers slots none = left_by_insert (table_of change.name.table plane.config.info) room plane change next slot few low numbers slots none
-left_by (changes.ModifyEntry change) room plane next slot few low numbers slots none = nothing_drawn next slot few low
-left_by (changes.DeleteEntry name) room plane next slot few low numbers slots none = nothing_drawn next slot few low
-left_by (changes.ModifyDefault table action) room plane next slot few low numbers slots none = nothing_drawn next slot few low
-left_by (changes.Profile change) room plane next slot few low numbers slots none = nothing_drawn next slot few low
-left_by (changes.Digest change) room plane next slot few low numbers slots none = nothing_drawn next slot few low
+left_by : (change : Change) (room : Room) (plane : Plane) (next slot most : ℕ) → next ≤ 2 ^ 64 - 1 → slot ≤ most → room.numbers ≡ 2 ^ 64 - 1 - next → room.slots ≡ most - slot
+    → change_cause room plane change ≡ None → IsLeft next slot most (drawn_by plane change).numbers (drawn_by plane change).slots
+left_by (changes.InsertEntry change) room plane next slot most few low numbers slots none = left_by_insert (table_of change.name.table plane.config.info) room plane change next slot most few low numbers slots none
+left_by (changes.ModifyEntry change) room plane next slot most few low numbers slots none = nothing_drawn next slot most few low
+left_by (changes.DeleteEntry name) room plane next slot most few low numbers slots none = nothing_drawn next slot most few low
+left_by (changes.ModifyDefault table action) room plane next slot most few low numbers slots none = nothing_drawn next slot most few low
+left_by (changes.Profile change) room plane next slot most few low numbers slots none = nothing_drawn next slot most few low
+left_by (changes.Digest change) room plane next slot most few low numbers slots none = nothing_drawn next slot most few low
 
-pub left_in : (o : Option Plane) (change : Change) (room : Room) (next slot : ℕ) → next ≤ 2 ^ 64 - 1 → slot ≤ 1048576 → room.numbers ≡ 2 ^ 64 - 1 - next → room.slots ≡ 1048576 - slot
-    → cause_in o room change ≡ None → IsLeft next slot (drawn_in o change).numbers (drawn_in o change).slots
-left_in None change room next slot few low numbers slots none = nothing_drawn next slot few low
-left_in (Some plane) change room next slot few low numbers slots none = left_by change room plane next slot few low numbers slots none
+pub left_in : (o : Option Plane) (change : Change) (room : Room) (next slot most : ℕ) → next ≤ 2 ^ 64 - 1 → slot ≤ most → room.numbers ≡ 2 ^ 64 - 1 - next → room.slots ≡ most - slot
+    → cause_in o room change ≡ None → IsLeft next slot most (drawn_in o change).numbers (drawn_in o change).slots
+left_in None change room next slot most few low numbers slots none = nothing_drawn next slot most few low
+left_in (Some plane) change room next slot most few low numbers slots none = left_by change room plane next slot most few low numbers slots none
 
 -- a change of a member or a group leaves all else of a plane
 profile_apart : (change : ProfileChange) (plane : Plane) → profile_changed plane change ≡ record plane { members = (profile_changed plane change).members; groups = (profile_changed plane change).groups }
@@ -167,14 +167,14 @@ cells_in_after (Some plane) change room next h = cells_in_more next (drawn_by pl
 own_number : (room : Room) (next : ℕ) → next ≤ 2 ^ 64 - 1 → room.numbers ≡ 2 ^ 64 - 1 - next → next_number room < next + 1
 own_number room next few is = omega (arith, few, is)
 
-pub staged_numbered : (device cpu rows : ℕ) (roles : RolesState) (active staged : Option Plane) (next slot : ℕ) (closed : Bool) (change : Change) (room : Room) (after : Option Plane) (drawn : Drawn)
-    → IsNumbered (control_of device cpu rows roles active staged next slot closed) → room ≡ room_of (control_of device cpu rows roles active staged next slot closed)
+pub staged_numbered : (device cpu rows most : ℕ) (roles : RolesState) (active staged : Option Plane) (next slot : ℕ) (closed : Bool) (change : Change) (room : Room) (after : Option Plane) (drawn : Drawn)
+    → IsNumbered (control_of device cpu rows most roles active staged next slot closed) → room ≡ room_of (control_of device cpu rows most roles active staged next slot closed)
     → cause_in staged room change ≡ None → after ≡ after_in staged room change → drawn ≡ drawn_in staged change
-    → IsNumbered (control_of device cpu rows roles active after (next + drawn.numbers) (slot + drawn.slots) closed)
-staged_numbered device cpu rows roles active staged next slot closed change room after drawn h room_is none after_is drawn_is =
-    let left = left_in staged change room next slot h.numbers h.slots (ap (λ (r : Room). r.numbers) room_is) (ap (λ (r : Room). r.slots) room_is) none in
+    → IsNumbered (control_of device cpu rows most roles active after (next + drawn.numbers) (slot + drawn.slots) closed)
+staged_numbered device cpu rows most roles active staged next slot closed change room after drawn h room_is none after_is drawn_is =
+    let left = left_in staged change room next slot most h.numbers h.slots (ap (λ (r : Room). r.numbers) room_is) (ap (λ (r : Room). r.slots) room_is) none in
     let below = below_in_after staged change room next (own_number room next h.numbers (ap (λ (r : Room). r.numbers) room_is)) h.staged in
-    let F : Option Plane → Drawn → Type 0 = λ o d. IsNumbered (control_of device cpu rows roles active o (next + d.numbers) (slot + d.slots) closed) in
+    let F : Option Plane → Drawn → Type 0 = λ o d. IsNumbered (control_of device cpu rows most roles active o (next + d.numbers) (slot + d.slots) closed) in
     subst (λ (o : Option Plane). F o drawn) (sym after_is) (subst (λ (d : Drawn). F (after_in staged room change) d) (sym drawn_is)
     (record {
       active = below_in_more next (drawn_in staged change).numbers active h.active;
@@ -185,14 +185,14 @@ staged_numbered device cpu rows roles active staged next slot closed change room
       slots = left.slots;
     }))
 
-pub active_numbered : (device cpu rows : ℕ) (roles : RolesState) (active staged : Option Plane) (next slot : ℕ) (closed : Bool) (change : Change) (room : Room) (after : Option Plane) (drawn : Drawn)
-    → IsNumbered (control_of device cpu rows roles active staged next slot closed) → room ≡ room_of (control_of device cpu rows roles active staged next slot closed)
+pub active_numbered : (device cpu rows most : ℕ) (roles : RolesState) (active staged : Option Plane) (next slot : ℕ) (closed : Bool) (change : Change) (room : Room) (after : Option Plane) (drawn : Drawn)
+    → IsNumbered (control_of device cpu rows most roles active staged next slot closed) → room ≡ room_of (control_of device cpu rows most roles active staged next slot closed)
     → cause_in active room change ≡ None → after ≡ after_in active room change → drawn ≡ drawn_in active change
-    → IsNumbered (control_of device cpu rows roles after staged (next + drawn.numbers) (slot + drawn.slots) closed)
-active_numbered device cpu rows roles active staged next slot closed change room after drawn h room_is none after_is drawn_is =
-    let left = left_in active change room next slot h.numbers h.slots (ap (λ (r : Room). r.numbers) room_is) (ap (λ (r : Room). r.slots) room_is) none in
+    → IsNumbered (control_of device cpu rows most roles after staged (next + drawn.numbers) (slot + drawn.slots) closed)
+active_numbered device cpu rows most roles active staged next slot closed change room after drawn h room_is none after_is drawn_is =
+    let left = left_in active change room next slot most h.numbers h.slots (ap (λ (r : Room). r.numbers) room_is) (ap (λ (r : Room). r.slots) room_is) none in
     let below = below_in_after active change room next (own_number room next h.numbers (ap (λ (r : Room). r.numbers) room_is)) h.active in
-    let F : Option Plane → Drawn → Type 0 = λ o d. IsNumbered (control_of device cpu rows roles o staged (next + d.numbers) (slot + d.slots) closed) in
+    let F : Option Plane → Drawn → Type 0 = λ o d. IsNumbered (control_of device cpu rows most roles o staged (next + d.numbers) (slot + d.slots) closed) in
     subst (λ (o : Option Plane). F o drawn) (sym after_is) (subst (λ (d : Drawn). F (after_in active room change) d) (sym drawn_is)
     (record {
       active = below;

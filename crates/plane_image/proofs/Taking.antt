@@ -3,7 +3,6 @@ use Rattle.std.proofs.Common.{◌≡◌, ◌≤◌, ◌+◌, ℕ, Bool, true, fa
 use Rattle.p4_types.specs.declared.events.Committed.TheVariants as contents
 use Rattle.p4_types.specs.declared.events.Event.TheVariants as events
 use Rattle.plane_spec.specs.Config.{Config, Committed, cells_in}
-use Rattle.plane_spec.specs.Entries.{slot_limit}
 use Rattle.plane_spec.specs.Legal.{MayMake, MayCommit}
 use Rattle.plane_spec.specs.Planes.{ControlState}
 use Rattle.plane_image.proofs.Following.{accepted}
@@ -22,7 +21,7 @@ not_false true h = absurd cc
 not_false false h = refl
 
 made : (c : ControlState) (config : Config) → MayMake c config → has_slots c config ≡ true
-made c config may = not_above slot_limit (c.next_slot + cells_in config) may.slots
+made c config may = not_above c.slots (c.next_slot + cells_in config) may.slots
 
 content_made : (c : ControlState) (content : Committed) → MayCommit c content → has_slots_in c content ≡ true
 content_made c contents.Staged may = refl

@@ -7,7 +7,6 @@ use Rattle.p4_types.specs.declared.events.Event.TheVariants as events
 use Rattle.p4_types.specs.declared.messages.Update.{Update}
 use Rattle.p4_types.specs.declared.table.Change.{Change}
 use Rattle.p4_types.specs.declared.table.Room.{Room}
-use Rattle.plane_spec.specs.Entries.{slot_limit}
 use Rattle.plane_spec.specs.Config.{Event, cells_in}
 use Rattle.plane_spec.specs.Planes.{ControlState, Plane, target, scope_of}
 use Rattle.plane_spec.specs.Updates.{resolution}
@@ -33,11 +32,12 @@ abbrev pub undone : PlanesVersions → PlanesVersions
 undone planes = record { active = planes.former_active; staged = planes.former_staged; former_active = planes.former_active; former_staged = planes.former_staged }
 
 -- the control state from its parts
-abbrev pub control_of : (device cpu rows : ℕ) → RolesState → (active staged : Option Plane) → (next next_slot : ℕ) → Bool → ControlState
-control_of device cpu rows roles active staged next next_slot closed = record {
+abbrev pub control_of : (device cpu rows slots : ℕ) → RolesState → (active staged : Option Plane) → (next next_slot : ℕ) → Bool → ControlState
+control_of device cpu rows slots roles active staged next next_slot closed = record {
   device = device;
   cpu = cpu;
   rows = rows;
+  slots = slots;
   roles = roles;
   active = active;
   staged = staged;
@@ -71,7 +71,7 @@ pub record IsNumbered (c : ControlState) : Type 0 where
   pub active_cells : CellsBelowIn c.next_slot c.active
   pub staged_cells : CellsBelowIn c.next_slot c.staged
   pub numbers : c.next ≤ 2 ^ 64 - 1
-  pub slots : c.next_slot ≤ slot_limit
+  pub slots : c.next_slot ≤ c.slots
 
 -- numbered now and before
 pub record IsImage (i : ImageVersions) : Type 0 where

@@ -3,7 +3,6 @@ use Rattle.std.specs.Prelude.{◌≡◌, ℕ, ◌+◌, nat_lt, Bool, true, not, 
 use Rattle.p4_types.specs.declared.events.Committed.TheVariants as contents
 use Rattle.p4_types.specs.declared.events.Event.TheVariants as events
 use Rattle.plane_spec.specs.Config.{Config, Committed, Event, cells_in}
-use Rattle.plane_spec.specs.Entries.{slot_limit}
 use Rattle.plane_spec.specs.Legal.{May}
 use Rattle.plane_spec.specs.Planes.{ControlState, apply, session_by}
 use Rattle.plane_image.specs.Image.{steps_of}
@@ -11,7 +10,7 @@ use Rattle.role_arbiter.specs.Arbitration.{is_refused}
 
 -- there are slots for the cells of a configuration
 abbrev pub has_slots : ControlState → Config → Bool
-has_slots c config = not (nat_lt slot_limit (c.next_slot + cells_in config))
+has_slots c config = not (nat_lt c.slots (c.next_slot + cells_in config))
 
 -- the same of what is committed; what is staged has its slots
 abbrev pub has_slots_in : ControlState → Committed → Bool

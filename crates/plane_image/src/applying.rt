@@ -1,7 +1,6 @@
 //! Events.
 ghost use Rattle.std.specs.Prelude.{◌≡◌, ◌≤◌, ◌+◌, ◌^◌, ◌-◌, min, false, true, OnOk, OnErr, fold};
 ghost use Rattle.plane_spec.specs.Config.{cells_in};
-ghost use Rattle.plane_spec.specs.Entries.{slot_limit};
 ghost use Rattle.plane_spec.specs.Legal.{May};
 ghost use Rattle.plane_spec.specs.Planes.{apply, saved, committed, change_applied, with_roles, session_by};
 ghost use Rattle.plane_image.specs.Image.{steps_of};
@@ -118,7 +117,7 @@ impl Image {
 
     fn save_step(&mut self, alloc: Global, config: &Shared<Config>) -> Result<(), NoMemory>
         requires settled { self.old.before ≡ self.old.now }
-        requires slots { self.old.now.next_slot + cells_in config.now ≤ slot_limit }
+        requires slots { self.old.now.next_slot + cells_in config.now ≤ self.old.now.slots }
         ensures ok { OnOk result (self.new.now ≡ saved self.old.now config.now) }
         ensures err { OnErr result (self.new.now ≡ self.old.now) }
         ensures settled { self.new.before ≡ self.new.now }

@@ -1,7 +1,7 @@
 //! The image.
 ghost use Rattle.std.specs.Prelude.{◌≡◌, ◌≤◌, ◌+◌, ◌-◌, ◌^◌, min, true, false, is_some, IfOk, OnOk};
 ghost use Rattle.std.specs.Option.{option_map};
-ghost use Rattle.plane_spec.specs.Entries.{slot_limit};
+ghost use Rattle.plane_spec.specs.Entries.{slot_numbers};
 ghost use Rattle.plane_spec.specs.Planes.{room_of, target, cause_in, change_applied, with_roles};
 ghost use Rattle.plane_image.specs.Image.{CellsBelowIn};
 ghost use Rattle.plane_state.specs.Answers.{WithoutMemory, WhereRefused};
@@ -13,7 +13,6 @@ ghost use Rattle.table_store.specs.Answers.{Refuses};
 use crate::planes::Planes;
 use list_types::Refusal;
 use p4_types::code::Cause;
-use p4_types::events::SLOT_LIMIT;
 use p4_types::table::{Change, Room};
 use plane_state::Plane;
 use role_arbiter::{Lanes, Placed, Roles, UndoRoles};
@@ -26,6 +25,7 @@ pub struct Image {
     pub(crate) device: u64,
     pub(crate) cpu: u16,
     pub(crate) rows: u32,
+    pub(crate) slots: u32,
     pub(crate) roles: UndoRoles,
     pub(crate) planes: Planes,
     pub(crate) next: u64,
@@ -46,14 +46,14 @@ impl Model for Image {
     ghost Value = { ImageVersions };
 
     ghost view = { λ i. record {
-      now = control_of i.device i.cpu i.rows i.roles.now i.planes.active i.planes.staged i.next i.next_slot i.closed;
-      before = control_of i.device i.cpu i.rows i.roles.before i.planes.former_active i.planes.former_staged i.former_next i.former_slot i.closed;
+      now = control_of i.device i.cpu i.rows i.slots i.roles.now i.planes.active i.planes.staged i.next i.next_slot i.closed;
+      before = control_of i.device i.cpu i.rows i.slots i.roles.before i.planes.former_active i.planes.former_staged i.former_next i.former_slot i.closed;
       steps = i.steps;
     } };
 
     ghost invariant = { λ i. IsImage (record {
-      now = control_of i.device i.cpu i.rows i.roles.now i.planes.active i.planes.staged i.next i.next_slot i.closed;
-      before = control_of i.device i.cpu i.rows i.roles.before i.planes.former_active i.planes.former_staged i.former_next i.former_slot i.closed;
+      now = control_of i.device i.cpu i.rows i.slots i.roles.now i.planes.active i.planes.staged i.next i.next_slot i.closed;
+      before = control_of i.device i.cpu i.rows i.slots i.roles.before i.planes.former_active i.planes.former_staged i.former_next i.former_slot i.closed;
       steps = i.steps;
     }) };
 }
@@ -65,6 +65,7 @@ impl Drop for Image {
             device: _,
             cpu: _,
             rows: _,
+            slots: _,
             roles: _roles,
             planes: _planes,
             next: _,
@@ -101,8 +102,9 @@ impl Image {
     /// The plane that packets run through.
     pub fn active(&self) -> Option<&Plane>
         ensures plane { option_map (λ plane. plane.now.now) result ≡ self.now.now.active }
-        ensures slots { CellsBelowIn slot_limit (option_map (λ plane. plane.now.now) result) }
+        ensures slots { CellsBelowIn slot_numbers (option_map (λ plane. plane.now.now) result) }
     {
+        let _below = self.next_slot;
         self.planes.active()
     }
 
@@ -115,15 +117,16 @@ impl Image {
     /// The plane that controllers write and read: the staged one where there is one, else the active one.
     pub fn target(&self) -> Option<&Plane>
         ensures plane { option_map (λ plane. plane.now.now) result ≡ target self.now.now }
-        ensures slots { CellsBelowIn slot_limit (option_map (λ plane. plane.now.now) result) }
+        ensures slots { CellsBelowIn slot_numbers (option_map (λ plane. plane.now.now) result) }
     {
+        let _below = self.next_slot;
         self.planes.target()
     }
 
     /// The slot of the counters that is drawn next: those of all entries and cells, of either plane, are below it.
     pub fn next_slot(&self) -> u32
         ensures slot { result ≡ self.now.now.next_slot }
-        ensures limit { result ≤ slot_limit }
+        ensures limit { result ≤ self.now.now.slots }
     {
         self.next_slot
     }
@@ -143,7 +146,9 @@ impl Image {
         let rows = u64::from(self.rows);
         Room {
             rows: rows.saturating_sub(active).saturating_sub(staged) as u32,
-            slots: SLOT_LIMIT - self.next_slot,
+            slots: self.slots - self.next_slot,
+            next_slot: self.next_slot,
+            next_stamp: 0,
             numbers: u64::MAX - self.next,
         }
     }

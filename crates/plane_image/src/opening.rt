@@ -59,6 +59,7 @@ impl Image {
             device: start.device,
             cpu: start.cpu,
             rows: start.rows,
+            slots: start.slots,
             roles,
             planes: Planes::open(active),
             next: 1,

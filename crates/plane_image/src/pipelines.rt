@@ -2,19 +2,18 @@
 ghost use Rattle.std.specs.Prelude.{◌≡◌, ◌≤◌, ◌+◌, nat_lt, IfOk, OnOk, OnErr};
 ghost use Rattle.p4_types.specs.declared.events.Committed.TheVariants as contents;
 ghost use Rattle.plane_spec.specs.Config.{cells_in};
-ghost use Rattle.plane_spec.specs.Entries.{slot_limit};
+ghost use Rattle.plane_spec.specs.Entries.{slot_numbers};
 ghost use Rattle.plane_spec.specs.Planes.{saved, committed, made_plane};
 
 use crate::image::Image;
 use list_types::NoMemory;
-use p4_types::events::SLOT_LIMIT;
 use p4_types::shared::Shared;
 use plane_state::{Config, Plane};
 use std::alloc::Global;
 
 // How many cells the indirect counters of a configuration have together, of which there are no more than slots.
 fn cells_in(config: &Config) -> u64
-    requires few { cells_in config.now ≤ slot_limit }
+    requires few { cells_in config.now ≤ slot_numbers }
     ensures { result ≡ cells_in config.now }
 {
     let mut cells = 0;
@@ -41,9 +40,9 @@ fn has_more_cells(config: &Config, room: u64) -> bool
 impl Image {
     /// Whether the cells of a configuration's counters need more slots than are left.
     pub fn lacks_slots(&self, config: &Config) -> bool
-        ensures { result ≡ nat_lt slot_limit (self.now.now.next_slot + cells_in config.now) }
+        ensures { result ≡ nat_lt self.now.now.slots (self.now.now.next_slot + cells_in config.now) }
     {
-        has_more_cells(config, u64::from(SLOT_LIMIT - self.next_slot))
+        has_more_cells(config, u64::from(self.slots - self.next_slot))
     }
 
     // A new plane of a configuration, whose cells have the next slots.
@@ -57,7 +56,7 @@ impl Image {
     /// Stages an empty plane of a configuration, whose cells draw their slots. Without memory the image is as it was.
     pub fn save(&mut self, alloc: Global, config: &Shared<Config>) -> Result<(), NoMemory>
         requires settled { self.old.before ≡ self.old.now }
-        requires slots { self.old.now.next_slot + cells_in config.now ≤ slot_limit }
+        requires slots { self.old.now.next_slot + cells_in config.now ≤ self.old.now.slots }
         ensures ok { OnOk result (self.new.now ≡ saved self.old.now config.now) }
         ensures err { OnErr result (self.new.now ≡ self.old.now) }
         ensures before { self.new.before ≡ self.old.before }
@@ -74,7 +73,7 @@ impl Image {
     /// the image is as it was.
     pub fn install(&mut self, alloc: Global, config: &Shared<Config>) -> Result<(), NoMemory>
         requires settled { self.old.before ≡ self.old.now }
-        requires slots { self.old.now.next_slot + cells_in config.now ≤ slot_limit }
+        requires slots { self.old.now.next_slot + cells_in config.now ≤ self.old.now.slots }
         ensures ok { OnOk result (self.new.now ≡ committed self.old.now (contents.Fresh config.now)) }
         ensures err { OnErr result (self.new.now ≡ self.old.now) }
         ensures before { self.new.before ≡ self.old.before }

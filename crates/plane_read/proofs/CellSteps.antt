@@ -5,7 +5,8 @@ use Rattle.std.proofs.lemmas.List.Elements.{All-nil, All-cons, All-head, All-tai
 use Rattle.std.proofs.lemmas.List.Sums.{sum_by-cons}
 use Rattle.p4_types.specs.declared.info.Counter.{Counter}
 use Rattle.switch_spec.specs.Counts.{Figures}
-use Rattle.switch_spec.specs.Reading.{placed, shown_cell, shown_cells}
+use Rattle.plane_spec.specs.Shown.{placed}
+use Rattle.switch_spec.specs.Reading.{shown_cell, shown_cells}
 
 placed_by : {X : Type 0} (P : X → Type 0) (b : Bool) (x y : X) (ys zs : List X) → P x → P y → All P ys → All P zs → All P (cond b (x ∷ y ∷ ys) (y ∷ zs))
 placed_by P true x y ys zs first own rest others = All-cons P x (y ∷ ys) first (All-cons P y ys own rest)

@@ -13,7 +13,8 @@ use Rattle.p4_types.specs.declared.messages.TableEntry.{TableEntry}
 use Rattle.plane_spec.specs.Objects.{table_of}
 use Rattle.plane_spec.specs.Planes.{Plane}
 use Rattle.switch_spec.specs.Counts.{Figures}
-use Rattle.switch_spec.specs.Reading.{shown_entry, shown_direct, selects, counted_entries}
+use Rattle.plane_spec.specs.Shown.{shown_entry}
+use Rattle.switch_spec.specs.Reading.{shown_direct, selects, counted_entries}
 
 -- entries
 pub entries_shown : (g : Figures) (info : Info) (list : List Entry) → answered views.Entries g info list ≡ map entities.TableEntry (map (shown_entry info) list)

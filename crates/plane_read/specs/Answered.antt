@@ -14,8 +14,9 @@ use Rattle.std.specs.List.{filter_map, flat_map, cons_option}
 use Rattle.plane_spec.specs.Planes.{Plane, default_entry}
 use Rattle.switch_spec.specs.Counts.{Figures}
 use Rattle.switch_spec.specs.declared.cells.Cells.{Cells}
-use Rattle.plane_spec.specs.Entries.{slot_limit}
-use Rattle.switch_spec.specs.Reading.{is_asked_id, shown_entry, shown_direct, shown_default, shown_member, shown_group, response_bytes, chunks}
+use Rattle.plane_spec.specs.Entries.{slot_numbers}
+use Rattle.plane_spec.specs.Shown.{shown_entry, shown_default, shown_member, shown_group}
+use Rattle.switch_spec.specs.Reading.{is_asked_id, shown_direct, response_bytes, chunks}
 use Rattle.plane_read.specs.declared.selecting.View.{View}
 use Rattle.plane_read.specs.declared.selecting.View.TheVariants as views
 use Rattle.plane_spec.specs.UpdateRules.{is_zero}
@@ -39,7 +40,7 @@ answered_cells list = map entities.CounterEntry list
 
 -- the cells have slots that there are
 pub record HasSlots (cells : Cells) : Type 0 where
-  pub within : cells.first + cells.size ≤ slot_limit
+  pub within : cells.first + cells.size ≤ slot_numbers
 
 -- the default actions of tables, each as it is answered
 abbrev pub answered_defaults : Plane → List ℕ → List Entity

@@ -3,23 +3,51 @@ ghost use Rattle.std.specs.Prelude.{◌≡◌, ◌≤◌, ◌<◌, ◌+◌, ◌+
 ghost use Rattle.std.specs.List.{flat_map, sum_by};
 ghost use Rattle.p4_types.specs.declared.messages.Entity.TheVariants as entities;
 ghost use Rattle.plane_spec.specs.Config.{cells_in};
-ghost use Rattle.plane_spec.specs.Entries.{slot_limit};
+ghost use Rattle.plane_spec.specs.Entries.{slot_numbers};
 ghost use Rattle.plane_read.specs.Answered.{answered_cells, HasSlots};
-ghost use Rattle.switch_spec.specs.Reading.{by_rising, cells_at, is_asked_id, shown_cell, shown_cells, cell_of_index, selected_cells, selected_counters};
+ghost use Rattle.plane_spec.specs.Shown.{by_rising};
+ghost use Rattle.switch_spec.specs.Reading.{cells_at, is_asked_id, shown_cell, shown_cells, cell_of_index, selected_cells, selected_counters};
 
 use crate::counts::{Counts, count_number, shown_data};
 use crate::members::is_asked_id;
-use crate::order;
+use entity_messages::order::{Numbered, place};
 use list_types::{List, NoMemory};
 use p4_types::info::Counter;
 use p4_types::messages::{CounterEntry, Entity, Index};
 use plane_state::Plane;
 use std::alloc::Global;
+use std::marker::Model;
 use switch_spec::cells::Cells;
 
+/// The cells of a counter, which rise by its id.
+#[derive(Drop)]
+struct CounterCells {
+    cells: Cells,
+}
+
+impl Model for CounterCells {
+    ghost use Rattle.switch_spec.specs.declared.cells.Cells.{Cells};
+
+    ghost Value = { Cells };
+
+    ghost view = { λ c. c.cells };
+}
+
+impl Numbered for CounterCells {
+    ghost key = { λ cells. cells.counter };
+
+    fn number(&self) -> u32 {
+        self.cells.counter
+    }
+}
+
 // Where the cells of counters stand, by rising id of the counter, of which the first has this slot.
-fn sorted_cells(alloc: Global, first: u32, counters: &[Counter]) -> Result<Vec<Cells>, NoMemory>
-    requires few { first + sum_by (λ counter. counter.size) counters.now ≤ slot_limit }
+fn sorted_cells(
+    alloc: Global,
+    first: u32,
+    counters: &[Counter],
+) -> Result<Vec<CounterCells>, NoMemory>
+    requires few { first + sum_by (λ counter. counter.size) counters.now ≤ slot_numbers }
     ensures sorted { IfOk result (λ list. list.items ≡ by_rising (λ cells. cells.counter) (cells_at first counters.now)) }
     ensures slots { IfOk result (λ list. All HasSlots list.items) }
 {
@@ -31,7 +59,7 @@ fn sorted_cells(alloc: Global, first: u32, counters: &[Counter]) -> Result<Vec<C
             first: slot,
             size: counter.size,
         };
-        order::place(&mut sorted, cells)?;
+        place(&mut sorted, CounterCells { cells })?;
         slot += counter.size;
     }
     Ok(sorted)
@@ -101,15 +129,15 @@ fn push_cells<C: Counts>(
 fn push_each<C: Counts>(
     counts: &C,
     asked: &CounterEntry,
-    list: &[Cells],
+    list: &[CounterCells],
     answer: &mut List<Entity>,
 ) -> Result<(), NoMemory>
     requires { All HasSlots list.now }
     ensures { OnOk result (answer.new ≡ answer.old ++ answered_cells (flat_map (selected_cells (C.figures counts.now) asked.now.index) (filter (λ cells. is_asked_id asked.now.counter_id cells.counter) list.now))) }
 {
-    for cells in list {
-        if is_asked_id(asked.counter_id, cells.counter) {
-            push_cells(counts, *cells, asked.index, answer)?;
+    for counter in list {
+        if is_asked_id(asked.counter_id, counter.cells.counter) {
+            push_cells(counts, counter.cells, asked.index, answer)?;
         }
     }
     Ok(())
@@ -123,7 +151,7 @@ pub(crate) fn push_counters<C: Counts>(
     asked: &CounterEntry,
     answer: &mut List<Entity>,
 ) -> Result<(), NoMemory>
-    requires { plane.now.now.cells + cells_in plane.now.now.config ≤ slot_limit }
+    requires { plane.now.now.cells + cells_in plane.now.now.config ≤ slot_numbers }
     ensures { OnOk result (answer.new ≡ answer.old ++ map entities.CounterEntry (selected_counters (C.figures counts.now) plane.now.now asked.now)) }
 {
     let counters = plane.config().info().info().counters.as_slice();

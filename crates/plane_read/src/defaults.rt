@@ -4,7 +4,8 @@ ghost use Rattle.p4_types.specs.declared.messages.Entity.TheVariants as entities
 ghost use Rattle.switch_spec.specs.Reading.{is_asked, table_ids, selected_defaults};
 ghost use Rattle.plane_read.specs.Answered.{answered_defaults};
 
-use crate::{order, showing};
+use entity_messages::order::place;
+use entity_messages::shown_default;
 use list_types::{List, NoMemory};
 use p4_types::messages::{Entity, TableEntry};
 use p4info_model::P4Info;
@@ -17,7 +18,7 @@ fn table_ids(alloc: Global, info: &P4Info) -> Result<Vec<u32>, NoMemory>
 {
     let mut ids = Vec::new(alloc);
     for table in info.info().tables.as_slice() {
-        order::place(&mut ids, table.preamble.id)?;
+        place(&mut ids, table.preamble.id)?;
     }
     Ok(ids)
 }
@@ -37,7 +38,7 @@ fn push_default(
     ensures { OnOk result (answer.new ≡ answer.old ++ answered_defaults plane.now.now (table ∷ [])) }
 {
     if let Some(default) = plane.default_entry(table) {
-        let shown = showing::shown_default(alloc, plane.config().info(), default)?;
+        let shown = shown_default(alloc, plane.config().info(), default)?;
         answer.push(Entity::TableEntry(shown))?;
     }
     Ok(())

@@ -8,12 +8,9 @@ mod digests;
 mod groups;
 mod members;
 mod messages;
-mod order;
 mod reading;
 mod refusals;
 mod selecting;
-mod showing;
-mod weights;
 
 pub use counts::Counts;
 pub use reading::read;

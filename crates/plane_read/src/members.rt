@@ -2,9 +2,9 @@
 ghost use Rattle.std.specs.Prelude.{◌≡◌, ◌++◌, ◌&&◌, ◌∷◌, [], filter, map, IfOk, OnOk};
 ghost use Rattle.p4_types.specs.declared.messages.Entity.TheVariants as entities;
 ghost use Rattle.plane_read.specs.Answered.{selects_member, answered_members};
-ghost use Rattle.switch_spec.specs.Reading.{is_asked_id, shown_member, selected_members};
+ghost use Rattle.switch_spec.specs.Reading.{is_asked_id, selected_members};
 
-use crate::showing;
+use entity_messages::shown_member;
 use list_types::{List, NoMemory};
 use p4_types::messages::{ActionProfileMember, Entity};
 use p4_types::profiles::Member;
@@ -24,21 +24,6 @@ fn selects_member(asked: &ActionProfileMember, member: &Member) -> bool
     ensures { result ≡ selects_member asked.now member.now }
 {
     is_asked_id(asked.action_profile_id, member.profile) && is_asked_id(asked.member_id, member.id)
-}
-
-fn shown_member(
-    alloc: Global,
-    info: &P4Info,
-    member: &Member,
-) -> Result<ActionProfileMember, NoMemory>
-    ensures { IfOk result (λ shown. shown ≡ shown_member info.now member.now) }
-{
-    let call = showing::shown_action(alloc, info, &member.call)?;
-    Ok(ActionProfileMember {
-        action_profile_id: member.profile,
-        member_id: member.id,
-        action: Some(call),
-    })
 }
 
 fn push_member(

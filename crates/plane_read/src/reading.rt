@@ -3,7 +3,7 @@ ghost use Rattle.std.specs.Prelude.{◌≡◌, ◌≤◌, ◌+◌, ◌++◌, map
 ghost use Rattle.std.specs.List.{flat_map};
 ghost use Rattle.p4_types.specs.declared.messages.Entity.TheVariants as entities;
 ghost use Rattle.plane_spec.specs.Config.{cells_in};
-ghost use Rattle.plane_spec.specs.Entries.{slot_limit};
+ghost use Rattle.plane_spec.specs.Entries.{slot_numbers};
 ghost use Rattle.switch_spec.specs.Reading.{read_unless, first_of, entity_refusal, selected, selected_entries};
 
 use crate::counts::Counts;
@@ -37,7 +37,7 @@ fn push_selected<C: Counts>(
     entity: &Option<Entity>,
     answer: &mut List<Entity>,
 ) -> Result<(), NoMemory>
-    requires cells { plane.now.now.cells + cells_in plane.now.now.config ≤ slot_limit }
+    requires cells { plane.now.now.cells + cells_in plane.now.now.config ≤ slot_numbers }
     ensures { OnOk result (answer.new ≡ answer.old ++ selected (C.figures counts.now) plane.now.now entity.now) }
 {
     match entity {
@@ -63,7 +63,7 @@ fn selected<C: Counts>(
     counts: &C,
     entities: &[Option<Entity>],
 ) -> Result<List<Entity>, NoMemory>
-    requires cells { plane.now.now.cells + cells_in plane.now.now.config ≤ slot_limit }
+    requires cells { plane.now.now.cells + cells_in plane.now.now.config ≤ slot_numbers }
     ensures { IfOk result (λ list. list ≡ flat_map (selected (C.figures counts.now) plane.now.now) entities.now) }
 {
     let mut answer = List::new(alloc);
@@ -83,7 +83,7 @@ pub fn read<C: Counts>(
     counts: &C,
     entities: &[Option<Entity>],
 ) -> Result<Result<List<ByteList>, Code>, NoMemory>
-    requires cells { plane.now.now.cells + cells_in plane.now.now.config ≤ slot_limit }
+    requires cells { plane.now.now.cells + cells_in plane.now.now.config ≤ slot_numbers }
     ensures { IfOk result (λ answer. answer ≡ read_unless (first_of (map (entity_refusal plane.now.now.config.info) entities.now)) (C.figures counts.now) plane.now.now entities.now) }
 {
     if let Some(code) = refusals::refusal(plane.config().info(), entities) {

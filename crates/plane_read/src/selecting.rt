@@ -5,12 +5,13 @@ ghost use Rattle.plane_spec.specs.Entries.{same_name};
 ghost use Rattle.plane_spec.specs.Objects.{table_of};
 ghost use Rattle.plane_spec.specs.Order.{StandsBefore};
 ghost use Rattle.p4_types.specs.declared.messages.Entity.TheVariants as entities;
-ghost use Rattle.switch_spec.specs.Reading.{selects, shown_entry, selected_direct};
+ghost use Rattle.plane_spec.specs.Shown.{shown_entry};
+ghost use Rattle.switch_spec.specs.Reading.{selects, selected_direct};
 ghost use Rattle.plane_read.specs.Answered.{answered, shown_as, has_priority};
 ghost use Rattle.write_rules.specs.Widths.{HasWidths};
 
 use crate::counts::{Counts, shown_data};
-use crate::showing;
+use entity_messages::{shown_entry, shown_name};
 use list_types::{List, NoMemory};
 use p4_types::info::Table;
 use p4_types::messages::{DirectCounterEntry, Entity, TableEntry};
@@ -42,7 +43,7 @@ fn push_shown(
 ) -> Result<(), NoMemory>
     ensures { OnOk result (answer.new ≡ answer.old ++ entities.TableEntry (shown_entry info.now entry.now) ∷ []) }
 {
-    let shown = showing::shown_entry(alloc, info, entry)?;
+    let shown = shown_entry(alloc, info, entry)?;
     answer.push(Entity::TableEntry(shown))?;
     Ok(())
 }
@@ -57,7 +58,7 @@ fn push_counter<C: Counts>(
     ensures { OnOk result (answer.new ≡ answer.old ++ shown_as View.Counters (C.figures counts.now) info.now entry.now) }
 {
     if let Some(slot) = entry.slot {
-        let name = showing::shown_name(alloc, info, entry)?;
+        let name = shown_name(alloc, info, entry)?;
         let (packets, bytes) = counts.count(slot);
         let shown = DirectCounterEntry {
             table_entry: Some(name),

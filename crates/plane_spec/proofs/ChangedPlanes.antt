@@ -1,11 +1,9 @@
 -- A change of the target plane that is not refused keeps what is kept.
-use Rattle.std.proofs.Common.{◌≡◌, ℕ, ◌+◌, ◌-◌, ◌^◌, ◌<◌, ◌≤◌, ◌||◌, ◌==◌, Bool, true, false, cond, eqb, ltb, List, [], ◌∷◌, length, get_or, fold, Option, Some, None, is_some, refl, sym, subst, ap, arith}
+use Rattle.std.proofs.Common.{◌≡◌, ℕ, ◌+◌, ◌-◌, ◌^◌, ◌<◌, ◌≤◌, ◌||◌, ◌==◌, Bool, true, false, cond, eqb, ltb, List, [], ◌∷◌, get_or, fold, Option, Some, None, is_some, refl, sym, subst, ap, arith}
 use Rattle.std.specs.List.{All, AllByRecursion, count_by, filter_map, find, sum_by}
 use Rattle.std.proofs.lemmas.Bool.{ltb-false, eqb-true}
 use Rattle.std.proofs.lemmas.List.Sums.{get_or-le-sum_by}
 use Rattle.p4_types.specs.declared.code.Cause.{Cause}
-use Rattle.p4_types.specs.declared.code.Code.{Code}
-use Rattle.p4_types.specs.declared.code.Rule.{Rule}
 use Rattle.p4_types.specs.declared.info.Table.{Table}
 use Rattle.p4_types.specs.declared.table.Change.{Change}
 use Rattle.p4_types.specs.declared.table.Change.TheVariants as changes
@@ -21,11 +19,11 @@ use Rattle.p4_types.specs.declared.table.EntryAction.TheVariants as entry_action
 use Rattle.p4_types.specs.declared.table.EntryChange.{EntryChange}
 use Rattle.p4_types.specs.declared.table.EntryName.{EntryName}
 use Rattle.plane_spec.specs.Config.{cells_in}
-use Rattle.plane_spec.specs.Entries.{same_name, slot_limit, table_size, entries_of, is_counted, slots_drawn, is_full, entry_named, new_entry, next_slot, inserted, modified, deleted, with_change}
+use Rattle.plane_spec.specs.Entries.{same_name, table_size, entries_of, is_counted, slots_drawn, is_full, entry_named, new_entry, inserted, modified, deleted, with_change}
 use Rattle.plane_spec.specs.Objects.{table_of}
 use Rattle.plane_spec.specs.Order.{StandsBefore}
 use Rattle.plane_spec.specs.Profiles.{entry_rows, group_of}
-use Rattle.plane_spec.specs.Planes.{ControlState, Plane, rows_of, rows_used, room_of, or_else, with_target, or_cause, caused_if, if_present, if_in_use, lacks_use, set_exceeds, insert_cause_in, modify_cause_in, profile_cause, change_cause, profile_changed, with_default, digests_changed, inserted_in, changed, changed_unless, changed_in, change_applied}
+use Rattle.plane_spec.specs.Planes.{ControlState, Plane, rows_of, rows_used, room_of, or_else, with_target, if_present, if_in_use, lacks_use, set_exceeds, insert_cause_in, modify_cause_in, profile_cause, change_cause, profile_changed, with_default, digests_changed, inserted_in, changed, changed_unless, changed_in, change_applied}
 use Rattle.plane_spec.specs.PlaneLaws.{numbers_from, numbers_of, slots_of}
 use Rattle.plane_spec.proofs.ChangedProfiles.{MayHave, no_cause, not_broken, neither, member_more, member_other, member_fewer, group_more, group_other, group_fewer}
 use Rattle.plane_spec.proofs.Counts.{sum-inserted, sum-modified, sum-deleted}
@@ -43,7 +41,7 @@ record MayStand (c : ControlState) (old new : Plane) (next next_slot : ℕ) : Ty
   slots : (x : ℕ) → times x (slots_of (Some new)) + drawn c.next_slot x ≤ times x (slots_of (Some old)) + drawn next_slot x
   rows : rows_used c + rows_of new ≤ c.rows + rows_of old
   number_limit : next ≤ 2 ^ 64 - 1
-  slot_limit : next_slot ≤ slot_limit
+  slot_limit : next_slot ≤ c.slots
 
 -- with another target plane, and other numbers that are drawn next
 abbrev pub put : ControlState → Plane → ℕ → ℕ → ControlState
@@ -103,7 +101,7 @@ record HasRoom (c : ControlState) (table : Table) (name : EntryName) (rows_neede
   unnamed : is_some (entry_named name entries) ≡ false
   size : entries_of table entries + 1 ≤ table_size table
   rows : rows_used c + rows_needed ≤ c.rows
-  slots : c.next_slot + slots_drawn table ≤ slot_limit
+  slots : c.next_slot + slots_drawn table ≤ c.slots
   numbers : c.next + 1 ≤ 2 ^ 64 - 1
 
 none_passes : (a b c d : Bool) → (a || b || c || d) ≡ false → (a ≡ false) × (b ≡ false) × (c ≡ false) × (d ≡ false)
@@ -113,7 +111,7 @@ none_passes false true c d h = absurd (cc)
 none_passes false false true d h = absurd (cc)
 none_passes false false false true h = absurd (cc)
 
-has_room : (c : ControlState) (table : Table) (old : Plane) (change : EntryChange) → c.next_slot ≤ slot_limit → 1 ≤ entry_rows change.action → insert_cause_in (Some table) (room_of c) old change ≡ None
+has_room : (c : ControlState) (table : Table) (old : Plane) (change : EntryChange) → c.next_slot ≤ c.slots → 1 ≤ entry_rows change.action → insert_cause_in (Some table) (room_of c) old change ≡ None
     → HasRoom c table change.name (entry_rows change.action) old.entries
 has_room c table old change limit some none =
     let entries = old.entries in
@@ -180,7 +178,6 @@ more_stand c old table change t found room =
     let entries : List Entry = inserted entry old.entries in
     let cells : List ℕ = numbers_from (cells_in old.config) old.cells in
     let number : entry.seq ≡ c.next = omega (arith, t.kept.number_limit) in
-    let slot : next_slot (room_of c) ≡ c.next_slot = omega (arith, t.kept.slot_limit) in
     let below : All (λ x. x.seq < c.next) old.entries = below_next_number c.next old.entries (λ x. omega (arith, t.drawn_numbers x, times-numbers x old.entries)) in record {
       plane = record {
         stand = stand_inserted entry old.entries t.is_kept.stand (subst (λ n. All (λ x. x.seq < n) old.entries) (sym number) below) (none_named change.name old.entries room.unnamed);
@@ -207,7 +204,7 @@ more_stand c old table change t found room =
         times-slots x entries,
         times-slots x old.entries,
         sum-inserted (λ e. slot_times x e.slot) entry old.entries,
-        slot_drawn (is_counted table) x (next_slot (room_of c)) c.next_slot slot,
+        slot_drawn (is_counted table) x c.next_slot c.next_slot refl,
       );
       rows = omega (arith, room.rows, sum-inserted (λ e. entry_rows e.action) entry old.entries);
       number_limit = room.numbers;

@@ -1,6 +1,6 @@
 -- A change of members or groups that is not refused keeps their order, and needs no more rows than there are.
-use Rattle.std.proofs.Common.{◌≡◌, ℕ, ◌+◌, ◌-◌, ◌≤◌, ◌||◌, Bool, true, false, cond, not, eqb, ltb, List, [], ◌∷◌, length, map, Option, Some, None, is_some, refl, arith}
-use Rattle.std.specs.List.{filter, find, sum_by}
+use Rattle.std.proofs.Common.{◌≡◌, ℕ, ◌+◌, ◌≤◌, ◌||◌, Bool, true, false, cond, not, eqb, ltb, List, [], ◌∷◌, length, map, Option, Some, None, is_some, refl, arith}
+use Rattle.std.specs.List.{filter, sum_by}
 use Rattle.std.proofs.lemmas.Bool.{ltb-false}
 use Rattle.std.proofs.lemmas.List.Filters.{sum_by-filter_both}
 use Rattle.p4_types.specs.declared.code.Cause.{Cause}

@@ -5,7 +5,7 @@ use Rattle.p4_types.specs.declared.info.Table.{Table}
 use Rattle.p4_types.specs.declared.profiles.Group.{Group}
 use Rattle.p4_types.specs.declared.profiles.Member.{Member}
 use Rattle.plane_spec.specs.Config.{Config, cells_in}
-use Rattle.plane_spec.specs.Entries.{slot_limit, table_size}
+use Rattle.plane_spec.specs.Entries.{table_size}
 use Rattle.plane_spec.specs.Objects.{table_of}
 use Rattle.plane_spec.specs.Planes.{ControlState, Plane, rows_in, made_plane}
 use Rattle.plane_spec.specs.PlaneLaws.{numbers_of, slots_of, IsSoundPlane, IsSoundControl}
@@ -33,17 +33,17 @@ pub record IsKeptPlane (plane : Plane) : Type 0 where
   pub groups : AreGroupsRising plane.groups
 
 -- The same as a sound control state, of its parts: each number and each slot stands once at most in both planes, and only if it was drawn.
-pub record AreKept (active staged : Option Plane) (next next_slot limit : ℕ) : Type 0 where
+pub record AreKept (active staged : Option Plane) (next next_slot limit most : ℕ) : Type 0 where
   pub active_plane : IfSome active IsKeptPlane
   pub staged_plane : IfSome staged IsKeptPlane
   pub numbers : (x : ℕ) → times x (numbers_of active) + times x (numbers_of staged) ≤ drawn next x
   pub slots : (x : ℕ) → times x (slots_of active) + times x (slots_of staged) ≤ drawn next_slot x
   pub rows : rows_in active + rows_in staged ≤ limit
   pub number_limit : next ≤ 2 ^ 64 - 1
-  pub slot_limit : next_slot ≤ slot_limit
+  pub slot_limit : next_slot ≤ most
 
 abbrev pub IsKept : ControlState → Type 0
-IsKept c = AreKept c.active c.staged c.next c.next_slot c.rows
+IsKept c = AreKept c.active c.staged c.next c.next_slot c.rows c.slots
 
 sound_plane : (o : Option Plane) → IfSome o IsKeptPlane → IfSome o IsSoundPlane
 sound_plane None h = tt
@@ -69,13 +69,13 @@ sound c k =
       slot_limit = k.slot_limit;
     }
 
-pub kept_at_first : (rows : ℕ) → AreKept None None 1 0 rows
-kept_at_first rows = record { active_plane = tt; staged_plane = tt; numbers = λ x. omega arith; slots = λ x. omega arith; rows = omega arith; number_limit = omega arith; slot_limit = omega arith }
+pub kept_at_first : (rows most : ℕ) → AreKept None None 1 0 rows most
+kept_at_first rows most = record { active_plane = tt; staged_plane = tt; numbers = λ x. omega arith; slots = λ x. omega arith; rows = omega arith; number_limit = omega arith; slot_limit = omega arith }
 
 -- a new plane is staged
-pub kept_saved : (active staged : Option Plane) (next next_slot rows : ℕ) (config : Config) → AreKept active staged next next_slot rows → next_slot + cells_in config ≤ slot_limit
-    → AreKept active (Some (made_plane next_slot config)) next (next_slot + cells_in config) rows
-kept_saved active staged next next_slot rows config k fits = record {
+pub kept_saved : (active staged : Option Plane) (next next_slot rows most : ℕ) (config : Config) → AreKept active staged next next_slot rows most → next_slot + cells_in config ≤ most
+    → AreKept active (Some (made_plane next_slot config)) next (next_slot + cells_in config) rows most
+kept_saved active staged next next_slot rows most config k fits = record {
   active_plane = k.active_plane;
   staged_plane = record { stand = tt; sizes = λ id table is. omega arith; members = tt; groups = tt };
   numbers = λ x. omega (arith, k.numbers x);
@@ -86,8 +86,8 @@ kept_saved active staged next next_slot rows config k fits = record {
 }
 
 -- the staged plane becomes the active one
-pub kept_committed : (active : Option Plane) (plane : Plane) (next next_slot rows : ℕ) → AreKept active (Some plane) next next_slot rows → AreKept (Some plane) None next next_slot rows
-kept_committed active plane next next_slot rows k = record {
+pub kept_committed : (active : Option Plane) (plane : Plane) (next next_slot rows most : ℕ) → AreKept active (Some plane) next next_slot rows most → AreKept (Some plane) None next next_slot rows most
+kept_committed active plane next next_slot rows most k = record {
   active_plane = k.staged_plane;
   staged_plane = tt;
   numbers = λ x. omega (arith, k.numbers x);

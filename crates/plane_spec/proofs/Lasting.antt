@@ -14,7 +14,7 @@ use Rattle.p4_types.specs.declared.table.Entry.{Entry}
 use Rattle.p4_types.specs.declared.table.EntryChange.{EntryChange}
 use Rattle.p4_types.specs.declared.table.EntryName.{EntryName}
 use Rattle.plane_spec.specs.Config.{Config, Committed, Event, cells_in}
-use Rattle.plane_spec.specs.Entries.{is_counted, same_name, new_entry, next_number, next_slot, slots_drawn, inserted, modified, deleted, with_change}
+use Rattle.plane_spec.specs.Entries.{is_counted, same_name, new_entry, next_number, slots_drawn, inserted, modified, deleted, with_change}
 use Rattle.plane_spec.specs.Legal.{Legal}
 use Rattle.plane_spec.specs.Objects.{table_of}
 use Rattle.plane_spec.specs.Planes.{profile_changed, ControlState, Plane, room_of, or_else, with_target, inserted_in, changed, changed_unless, changed_in, change_applied, apply, applied, made_plane, staged_committed, committed}
@@ -111,8 +111,7 @@ insert_hold P Q None c old change t = t.hold
 insert_hold P Q (Some table) c old change t =
     let entry : Entry = new_entry table (room_of c) change in
     let number : c.next ≤ next_number (room_of c) = omega (arith, t.kept.number_limit) in
-    let slot : c.next_slot ≤ next_slot (room_of c) = omega (arith, t.kept.slot_limit) in
-    let new : P entry.seq entry.slot = drawn_holds P Q c.next c.next_slot (next_number (room_of c)) (next_slot (room_of c)) (is_counted table) number slot t.hold.fresh in
+    let new : P entry.seq entry.slot = drawn_holds P Q c.next c.next_slot (next_number (room_of c)) c.next_slot (is_counted table) number (le_refl c.next_slot) t.hold.fresh in
     t.replaced (record old { entries = inserted entry old.entries }) (c.next + 1) (c.next_slot + slots_drawn table) (omega arith) (omega arith)
     record { entries = inserted_holds P entry old.entries new t.own.entries; cells = t.own.cells }
 

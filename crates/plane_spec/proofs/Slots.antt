@@ -184,7 +184,7 @@ from_here list c before now k legal is at_end =
     let each : (e f : Entry) → Contains before.entries e → Contains now.entries f → OfEntry e f.seq f.slot = λ e f at there.
     All-contains (λ (g : Entry). OfEntry e g.seq g.slot) now.entries f (of_entry e at).entries there in record {
       numbers = λ e f slot at there own other. sym ((each e f at there).by_slot slot own other);
-      slots = λ e f at there same. sym ((each e f at there).by_number (sym same));
+      slots = λ e f slot at there same own. sym ((each e f at there).by_number (sym same)) ∙ own;
       cells_now = λ e slot at own cell. (of_entry e at).cells slot own cell.0 cell.1;
       cells_before = λ f slot there own cell. All-contains (λ (g : Entry). NotOf slot g.seq g.slot) now.entries f (of_cell slot cell).entries there own;
     }
@@ -195,4 +195,4 @@ behind [] (suc n) c before now k legal is at_end = from_here [] c before now k l
 behind (event ∷ list) (suc n) c before now k legal is at_end = behind list n (apply c event) before now (event_kept event c k legal.0) legal.1 is at_end
 
 pub slots_stay : SlotsStay
-slots_stay start list n before now legal is at_end = behind list n _ before now (first_kept start.bridge start.rows) legal is at_end
+slots_stay start list n before now legal is at_end = behind list n _ before now (first_kept start.bridge start.rows start.slots) legal is at_end

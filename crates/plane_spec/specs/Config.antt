@@ -1,5 +1,5 @@
 -- Forwarding pipeline configurations (P4Runtime 1.3.0, "ForwardingPipelineConfig").
-use Rattle.std.specs.Prelude.{◌≡◌, ℕ, List, sum_by, Option, Some, None}
+use Rattle.std.specs.Prelude.{ℕ, List, sum_by, Option, Some, None}
 use Rattle.std.specs.List.{filter_map}
 use Rattle.bm_pipeline.specs.declared.program.Program.{Program}
 use Rattle.bm_pipeline.specs.declared.tables.DefaultEntry.{DefaultEntry}

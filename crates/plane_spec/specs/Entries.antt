@@ -2,7 +2,6 @@
 use Rattle.std.specs.Prelude.{ℕ, ◌+◌, ◌-◌, ◌/◌, ◌^◌, ◌==◌, ◌&&◌, ◌||◌, not, nat_lt, nat_le, int_lt, bit_and, Bool, true, false, if◌then◌else◌, List, [], ◌∷◌, ◌++◌, length, filter, find, map, count_by, Option, Some, None, is_some}
 use Rattle.std.specs.List.{list_any}
 use Rattle.std.specs.Ordering.{int_eq}
-use Rattle.p4_types.specs.declared.events.TheConstants.{SLOT_LIMIT}
 use Rattle.p4_types.specs.declared.code.Cause.{Cause}
 use Rattle.p4_types.specs.declared.code.Code.TheVariants as codes
 use Rattle.p4_types.specs.declared.code.Rule.TheVariants as rules
@@ -97,17 +96,13 @@ is_counted table = not (length table.direct_counters == 0)
 abbrev pub slots_drawn : Table → ℕ
 slots_drawn table = if is_counted table then 1 else 0
 
--- how many slots of counters the switch has
-abbrev pub slot_limit : ℕ
-slot_limit = SLOT_LIMIT
+-- as many slots as there may be: a slot is a number of 32 bits
+abbrev pub slot_numbers : ℕ
+slot_numbers = 2 ^ 32 - 1
 
 -- the sequence number that an INSERT draws
 abbrev pub next_number : Room → ℕ
 next_number room = 2 ^ 64 - 1 - room.numbers
-
--- the slot that an INSERT into a table with a direct counter draws
-abbrev pub next_slot : Room → ℕ
-next_slot room = slot_limit - room.slots
 
 -- how many entries the table has
 abbrev pub entries_of : Table → List Entry → ℕ
@@ -136,7 +131,7 @@ new_entry table room change = record {
   seq = next_number room;
   controller_metadata = change.controller_metadata;
   action = change.action;
-  slot = if is_counted table then Some (next_slot room) else None;
+  slot = if is_counted table then Some room.next_slot else None;
 }
 
 -- Entries stand by rising table id, those of one table by rising sequence number: a new one stands behind those of its table.

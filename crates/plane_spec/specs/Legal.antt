@@ -3,13 +3,12 @@ use Rattle.std.specs.Prelude.{◌≡◌, ℕ, ◌+◌, ◌≤◌, true, false, L
 use Rattle.p4_types.specs.declared.events.Committed.TheVariants as contents
 use Rattle.p4_types.specs.declared.events.Event.TheVariants as events
 use Rattle.p4_types.specs.declared.events.Origin.{Origin}
-use Rattle.p4_types.specs.declared.messages.MasterArbitrationUpdate.{MasterArbitrationUpdate}
+use Rattle.p4_types.specs.declared.calls.ArbitrationUpdate.{ArbitrationUpdate}
 use Rattle.p4_types.specs.declared.messages.Update.{Update}
 use Rattle.p4_types.specs.declared.table.Change.{Change}
-use Rattle.role_arbiter.specs.Arbitration.{cause, asked}
+use Rattle.role_arbiter.specs.Arbitration.{cause, asked, IsServedConfig}
 use Rattle.role_arbiter.specs.State.{session_in}
 use Rattle.plane_spec.specs.Config.{Config, Committed, Event, cells_in, IsValidConfig}
-use Rattle.plane_spec.specs.Entries.{slot_limit}
 use Rattle.plane_spec.specs.Planes.{ControlState, primary, is_of_primary, scope_of, outcome, change_applied, apply, session_by}
 
 -- a change may be made under the id of its role's primary where some update makes it in this state
@@ -23,9 +22,10 @@ abbrev pub MayChanges : ControlState → Origin → List Change → Type 0
 MayChanges c by [] = Unit {0}
 MayChanges c by (change ∷ list) = MayChange c by change × MayChanges (change_applied c change) by list
 
--- a session may be made where some update asks for it that no rule refuses in this state
+-- a session may be made where some update asks for it that no rule refuses in this state; a configuration is one that an update can give
 pub record MayArbitrate (c : ControlState) (by : Origin) (config : Option (List ℕ)) : Type 0 where
-  pub update : MasterArbitrationUpdate
+  pub update : ArbitrationUpdate
+  pub served : IsServedConfig by.role config
   pub asks : asked by.caller update ≡ session_by by config
   pub no_cause : cause c.roles by.caller update ≡ None
 
@@ -37,7 +37,7 @@ pub record MaySet (c : ControlState) (by : Origin) : Type 0 where
 -- a plane of the configuration may be made: it is valid, and there are slots for its cells
 pub record MayMake (c : ControlState) (config : Config) : Type 0 where
   pub valid : IsValidConfig config
-  pub slots : c.next_slot + cells_in config ≤ slot_limit
+  pub slots : c.next_slot + cells_in config ≤ c.slots
 
 -- what a Commit makes active is there, or may be made
 abbrev pub MayCommit : ControlState → Committed → Type 0

@@ -9,6 +9,7 @@ pub mod Planes
 pub mod ProfileRules
 pub mod Profiles
 pub mod RoleLaws
+pub mod Shown
 pub mod SlotLaws
 pub mod UpdateRules
 pub mod Updates

@@ -4,7 +4,7 @@ use Rattle.std.specs.List.{AllPairs, IsDistinct, filter_map}
 use Rattle.p4_types.specs.declared.events.Start.{Start}
 use Rattle.p4_types.specs.declared.info.Table.{Table}
 use Rattle.plane_spec.specs.Config.{Event, cells_in}
-use Rattle.plane_spec.specs.Entries.{slot_limit, table_size}
+use Rattle.plane_spec.specs.Entries.{table_size}
 use Rattle.plane_spec.specs.Legal.{Legal}
 use Rattle.plane_spec.specs.Objects.{table_of}
 use Rattle.plane_spec.specs.Order.{StandsBefore}
@@ -43,7 +43,7 @@ pub record IsSoundControl (c : ControlState) : Type 0 where
   pub slots_apart : IsDistinct nat_eq (slots_of c.active ++ slots_of c.staged)
   pub rows : rows_used c ≤ c.rows
   pub number_limit : c.next ≤ 2 ^ 64 - 1
-  pub slot_limit : c.next_slot ≤ slot_limit
+  pub slot_limit : c.next_slot ≤ c.slots
 
 -- After any events that may follow one another the planes are sound.
 abbrev pub PlanesStaySound : Type 0

@@ -1,5 +1,5 @@
 -- The control state of the switch, and what changes it (P4Runtime 1.3.0, "Mastership Arbitration", "Table entries", "SetForwardingPipelineConfig RPC").
-use Rattle.std.specs.Prelude.{ℕ, ◌+◌, ◌-◌, ◌^◌, ◌==◌, ◌&&◌, ◌||◌, not, nat_lt, Bool, true, false, if◌then◌else◌, List, [], ◌∷◌, ◌++◌, length, sum_by, Option, Some, None, option_map, is_some, fold, take, find, filter, Result, Ok, Err}
+use Rattle.std.specs.Prelude.{ℕ, ◌+◌, ◌-◌, ◌^◌, ◌==◌, ◌&&◌, ◌||◌, not, nat_lt, Bool, true, false, if◌then◌else◌, List, [], ◌∷◌, ◌++◌, length, sum_by, Option, Some, None, is_some, fold, take, find, filter, Result, Ok, Err}
 use Rattle.std.specs.List.{list_any}
 use Rattle.p4_types.specs.declared.code.Cause.{Cause}
 use Rattle.p4_types.specs.declared.code.Code.{Code}
@@ -36,7 +36,7 @@ use Rattle.role_arbiter.specs.Election.{election_number}
 use Rattle.role_arbiter.specs.State.{RolesState, no_roles, primary_of}
 use Rattle.plane_spec.specs.Bridge.{bridge_config, bridge_session}
 use Rattle.plane_spec.specs.Config.{Config, Committed, Event, cells_in, own_defaults}
-use Rattle.plane_spec.specs.Entries.{slot_limit, entry_named, is_full, absence_cause, new_entry, slots_drawn, inserted, modified, deleted}
+use Rattle.plane_spec.specs.Entries.{entry_named, is_full, absence_cause, new_entry, slots_drawn, inserted, modified, deleted}
 use Rattle.plane_spec.specs.Objects.{table_of, action_profile_of}
 use Rattle.plane_spec.specs.Profiles.{member_of, group_of, member_inserted, member_modified, member_deleted, group_inserted, group_modified, group_deleted, member_uses, group_uses, set_size, set_actions, members_in, groups_in, profile_size, is_overweight, weight_of, set_weight, entry_rows, group_rows}
 use Rattle.plane_spec.specs.UpdateRules.{caused, change_unless}
@@ -65,6 +65,8 @@ pub record ControlState : Type 0 where
   pub cpu : ℕ
   -- how many rows the entries of both planes may take together, each one
   pub rows : ℕ
+  -- how many slots of counters there are; those of both planes are drawn from them
+  pub slots : ℕ
   -- the live sessions, and the roles with the greatest election ids that they received
   pub roles : RolesState
   -- what packets run through, or none
@@ -88,6 +90,7 @@ opened start = record {
   device = start.device;
   cpu = start.cpu;
   rows = start.rows;
+  slots = start.slots;
   roles = if start.bridge then arbitrated no_roles bridge_session else no_roles;
   active = if start.bridge then Some (made_plane 0 bridge_config) else None;
   staged = None;
@@ -136,9 +139,9 @@ rows_in (Some plane) = rows_of plane
 abbrev pub rows_used : ControlState → ℕ
 rows_used c = rows_in c.active + rows_in c.staged
 
--- what is left to be drawn
+-- what is left to be drawn, and what is drawn next; no entry has a stamp
 abbrev pub room_of : ControlState → Room
-room_of c = record { rows = c.rows - rows_used c; slots = slot_limit - c.next_slot; numbers = 2 ^ 64 - 1 - c.next }
+room_of c = record { rows = c.rows - rows_used c; slots = c.slots - c.next_slot; next_slot = c.next_slot; next_stamp = 0; numbers = 2 ^ 64 - 1 - c.next }
 
 -- a cause that is asked behind another
 abbrev pub or_cause : Option Cause → Option Cause → Option Cause

@@ -24,7 +24,7 @@ use Rattle.p4_types.specs.declared.table.DigestChange.TheVariants as digest_chan
 use Rattle.p4_types.specs.declared.table.UpdateKind.{UpdateKind}
 use Rattle.p4_types.specs.declared.table.UpdateKind.TheVariants as kinds
 use Rattle.plane_spec.specs.Objects.{action_profile_of, digest_of}
-use Rattle.plane_spec.specs.UpdateRules.{repeats, brings, is_zero, is_foreign, is_watched, is_weight, natural, profile_call_flaw, call_by, caused, caused_by, change_unless}
+use Rattle.plane_spec.specs.UpdateRules.{repeats, brings, is_foreign, is_watched, is_weight, natural, profile_call_flaw, call_by, caused, caused_by, change_unless}
 
 -- U9 on a member that an update brings; a DELETE's action is not looked at
 abbrev pub member_flaw : Info → Option ActionProfile → UpdateKind → ActionProfileMember → Option Code

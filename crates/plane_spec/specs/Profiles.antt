@@ -1,5 +1,5 @@
 -- Members and groups of action profiles, and who names them (P4Runtime 1.3.0, "ActionProfileMember & ActionProfileGroup", "One Shot Action Selector Programming"; what may stand together, and what takes rows: this project's profile).
-use Rattle.std.specs.Prelude.{ℕ, ◌+◌, ◌==◌, ◌&&◌, ◌||◌, not, nat_lt, Bool, true, false, if◌then◌else◌, List, ◌∷◌, ◌++◌, length, map, filter, find, count_by, sum_by, Option, Some, None}
+use Rattle.std.specs.Prelude.{ℕ, ◌+◌, ◌==◌, ◌&&◌, ◌||◌, not, nat_lt, Bool, false, if◌then◌else◌, List, ◌∷◌, ◌++◌, length, map, filter, find, count_by, sum_by, Option, Some, None}
 use Rattle.p4_types.specs.declared.info.ActionProfile.{ActionProfile}
 use Rattle.p4_types.specs.declared.profiles.Group.{Group}
 use Rattle.p4_types.specs.declared.profiles.Member.{Member}

@@ -10,10 +10,10 @@ use Rattle.plane_spec.specs.Planes.{Plane, opened, applied, after}
 abbrev pub HasCell : Plane → ℕ → Type 0
 HasCell plane slot = (plane.cells ≤ slot) × (slot < plane.cells + cells_in plane.config)
 
--- what the active planes of two moments tell of each other: a slot is that of one number or of a cell, a number has one slot
+-- What the active planes of two moments tell of each other: a slot is that of one number or of a cell, and a slot that an entry has now it had since its INSERT.
 pub record TellAlike (before now : Plane) : Type 0 where
   pub numbers : (e f : Entry) (slot : ℕ) → Contains before.entries e → Contains now.entries f → e.slot ≡ Some slot → f.slot ≡ Some slot → e.seq ≡ f.seq
-  pub slots : (e f : Entry) → Contains before.entries e → Contains now.entries f → e.seq ≡ f.seq → e.slot ≡ f.slot
+  pub slots : (e f : Entry) (slot : ℕ) → Contains before.entries e → Contains now.entries f → e.seq ≡ f.seq → f.slot ≡ Some slot → e.slot ≡ Some slot
   pub cells_now : (e : Entry) (slot : ℕ) → Contains before.entries e → e.slot ≡ Some slot → HasCell now slot → ⊥
   pub cells_before : (f : Entry) (slot : ℕ) → Contains now.entries f → f.slot ≡ Some slot → HasCell before slot → ⊥
 

@@ -19,7 +19,6 @@ use Rattle.p4_types.specs.declared.info.Scope.TheVariants as scopes
 use Rattle.p4_types.specs.declared.info.Table.{Table}
 use Rattle.p4_types.specs.declared.messages.Action.{Action}
 use Rattle.p4_types.specs.declared.messages.ActionProfileAction.{ActionProfileAction}
-use Rattle.p4_types.specs.declared.messages.ActionProfileActionSet.{ActionProfileActionSet}
 use Rattle.p4_types.specs.declared.messages.FieldMatch.{FieldMatch}
 use Rattle.p4_types.specs.declared.messages.FieldMatchKind.{FieldMatchKind}
 use Rattle.p4_types.specs.declared.messages.FieldMatchKind.TheVariants as given

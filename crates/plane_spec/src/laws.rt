@@ -14,8 +14,8 @@ pub fn planes_stay_sound()
     ensures law { PlanesStaySound }
 {}
 
-/// Of any two states that legal events lead to, one after the other, entries of the active planes have one slot just where
-/// they have one sequence number, and no entry of either has the slot of a cell of the other.
+/// Of any two states that legal events lead to, one after the other, a slot of entries of the active planes is that of one
+/// sequence number, a slot that an entry has now it had since its INSERT, and no entry of either has the slot of a cell of the other.
 pub fn slots_stay()
     ensures law { SlotsStay }
 {}

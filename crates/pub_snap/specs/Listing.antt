@@ -27,9 +27,9 @@ listing start events = Open start ∷ map (λ event. Made event) events
 
 -- the start of a list
 abbrev pub start_of : List Listed → Start
-start_of [] = record { device = 0; cpu = 0; rows = 0; bridge = false }
+start_of [] = record { device = 0; cpu = 0; rows = 0; slots = 0; bridge = false }
 start_of (Open start ∷ list) = start
-start_of (Made event ∷ list) = record { device = 0; cpu = 0; rows = 0; bridge = false }
+start_of (Made event ∷ list) = record { device = 0; cpu = 0; rows = 0; slots = 0; bridge = false }
 
 -- the events of a list
 abbrev pub events_of : List Listed → List Event

@@ -25,7 +25,6 @@ use Rattle.p4_types.specs.declared.journal.Report.{Report}
 use Rattle.p4_types.specs.declared.records.Record.{Record}
 use Rattle.p4_types.specs.declared.tape.TapeRecord.{TapeRecord}
 use Rattle.plane_spec.specs.Config.{Event}
-use Rattle.plane_spec.specs.Entries.{slot_limit}
 use Rattle.plane_spec.specs.Legal.{Legal}
 use Rattle.plane_spec.specs.Planes.{ControlState, Plane, apply, applied, opened}
 use Rattle.pub_snap.specs.Beginnings.{Beginning}
@@ -117,7 +116,7 @@ gathered start tape signed told callers workers calls items each calls_are items
 pub reported : (start : Start) (tape : List TapeRecord) (signed : List Signed) (last : Beginning) (callers workers : List Work) (control : ControlState) (rest seat : Account) (totals : List ℕ) (report : Report)
     → AreGathered start tape (journal_of signed) last callers workers → OfEach (HasRead start signed) 32 callers → SeeAll (opened start) signed → length tape ≤ 1000000 → control ≡ applied (opened start) (journal_events (opened start) (journal_of signed))
     → rest.added ≡ [] → seat ≡ fold accounts.joined (fold accounts.joined rest (map (λ (w : Work). w.seat) workers)) (map (λ (w : Work). w.seat) callers)
-    → AreTotals totals slot_limit seat.added → NoneAbove seat.noted seat.added
+    → AreTotals totals start.slots seat.added → NoneAbove seat.noted seat.added
     → report.journal ≡ map (λ (s : Signed). s.entry) signed → report.sent ≡ [] → report.records ≡ flat_map (λ (w : Work). w.records) workers ++ flat_map (λ (w : Work). w.records) callers
     → report.counts ≡ count_lines (figures_at totals) control.active → report.cells ≡ cell_lines (figures_at totals) control.active
     → IsRunReport start tape report
@@ -136,7 +135,7 @@ reported start tape signed last callers workers control rest seat totals report 
     let p = all_added start tape journal last callers workers (λ (a : Account). packets_of a.added slot) h in
     let b = all_added start tape journal last callers workers (λ (a : Account). bytes_of a.added slot) h in
     ap (λ (a : Account). added_by a slot) joined_is ∙ all ∙ pairs _ _ (sym p) (sym b) ∙ sym counted in
-    let words : (slot : ℕ) → slot < slot_limit → figures_at totals slot ≡ in_words (figures_of packets) slot = λ slot lt.
+    let words : (slot : ℕ) → slot < start.slots → figures_at totals slot ≡ in_words (figures_of packets) slot = λ slot lt.
     are_totals slot lt ∙ ap (λ (x : ℕ × ℕ). (x.0 % 2 ^ 64, x.1 % 2 ^ 64)) (added slot) in
     let lines = totals_are_counts start tape journal packets (figures_at totals) run within words in
     let active : control.active ≡ (final start journal).active = ap (λ (c : ControlState). c.active) control_is ∙ sym (still_active start journal) in

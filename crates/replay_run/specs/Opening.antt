@@ -11,7 +11,6 @@ use Rattle.p4_types.specs.declared.tape.TapeRecord.{TapeRecord}
 use Rattle.p4_types.specs.declared.tape.TapeRecord.TheVariants.{Call, Packet, Leave, Meet}
 use Rattle.p4_types.specs.declared.tape.Who.{Who}
 use Rattle.p4_types.specs.declared.tape.Who.TheVariants.{Controller, Worker}
-use Rattle.plane_spec.specs.Entries.{slot_limit}
 use Rattle.plane_spec.specs.Planes.{opened}
 use Rattle.pub_snap.specs.Snapshots.{Feed, Sight}
 use Rattle.replay_run.specs.declared.opening.Post.{Post}
@@ -53,7 +52,7 @@ pub record AreParts (start : Start) (publisher : Feed) (parts : Parts) : Type 0 
   pub no_call : parts.control.calls ≡ replicate 32 0
   pub viewers : AllByRecursion (SeesRun publisher.told.list start) parts.viewers.items
   pub many : length parts.viewers.items ≡ 48
-  pub slots : parts.bank.slots ≡ slot_limit
+  pub slots : parts.bank.slots ≡ start.slots
   pub rest_is : parts.rest ≡ first_seat parts.bank.id
   pub journal_is : parts.journal ≡ seat_of parts.table []
   pub lanes_are : parts.lanes.items ≡ seats_from parts.table 32

@@ -1,10 +1,10 @@
 -- What the report of a run says (this project's profile).
-use Rattle.std.specs.Prelude.{◌≡◌, ℕ, List}
+use Rattle.std.specs.Prelude.{◌≡◌, List}
 use Rattle.p4_types.specs.declared.events.Start.{Start}
 use Rattle.p4_types.specs.declared.journal.Report.{Report}
 use Rattle.p4_types.specs.declared.tape.TapeRecord.{TapeRecord}
 use Rattle.run_counts.specs.Reading.{FiguresAreBounded}
-use Rattle.run_spec.specs.Report.{IsReport, IsRun, report_of}
+use Rattle.run_spec.specs.Report.{IsRun, report_of}
 use Rattle.switch_spec.specs.Counts.{Carried}
 use Rattle.switch_spec.specs.History.{Made}
 
@@ -15,8 +15,3 @@ pub record IsRunReport (start : Start) (tape : List TapeRecord) (report : Report
   pub run : IsRun start tape journal records
   pub read : FiguresAreBounded start journal records
   pub report_is : report ≡ report_of start tape journal records
-
--- The text is the report of a run of the tape, in some interleaving of its lanes, whose Reads saw what they could of the counters.
-pub record IsFreeReport (start : Start) (tape : List TapeRecord) (text : List ℕ) : Type 0 where
-  pub report : IsReport start tape text
-  pub read : FiguresAreBounded start report.journal report.records

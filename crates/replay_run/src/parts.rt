@@ -1,5 +1,6 @@
 //! What a run stands on before its first call.
-ghost use Rattle.std.specs.Prelude.{IfOk};
+ghost use Rattle.std.specs.Prelude.{◌<◌, ◌≤◌, IfOk};
+ghost use Rattle.counter_bank.specs.Account.{most_slots};
 ghost use Rattle.replay_run.specs.Opening.{AreParts};
 
 use counter_bank::{Bank, Seat};
@@ -7,7 +8,7 @@ use ctl_core::Control;
 use ctl_lock::Signed;
 use lane_table::{JournalSeat, LaneSeat, LaneTable, open_lanes};
 use list_types::NoMemory;
-use p4_types::events::{SLOT_LIMIT, Start};
+use p4_types::events::Start;
 use pub_snap::{Publisher, Viewer};
 use std::alloc::Global;
 use std::sync::Wait;
@@ -33,9 +34,10 @@ pub(crate) fn open_parts<R: Wait + Drop>(
     alloc: Global,
     start: &Start,
 ) -> Result<(Publisher<R>, Parts), NoMemory>
+    requires slots { (0 < start.now.slots) × (start.now.slots ≤ most_slots) }
     ensures parts { IfOk result (λ r. AreParts start.now r.0 r.1) }
 {
-    let (bank, rest) = counter_bank::open(alloc, SLOT_LIMIT)?;
+    let (bank, rest) = counter_bank::open(alloc, start.slots)?;
     let (table, journal, lanes) = open_lanes(alloc)?;
     let (publisher, viewers) = pub_snap::open(alloc, rt, start, LANES)?;
     let Ok(control) = Control::open(alloc, start) else {

@@ -1,10 +1,9 @@
 //! A replay of a tape by the desk, each of its lanes to its end.
-ghost use Rattle.std.specs.Prelude.{◌≡◌, ◌≤◌, [], length, IfOk, OnOk};
+ghost use Rattle.std.specs.Prelude.{◌≡◌, ◌<◌, ◌≤◌, [], length, IfOk, OnOk};
 ghost use Rattle.std.specs.List.{AllByRecursion};
-ghost use Rattle.counter_bank.specs.Account.{first_seat};
+ghost use Rattle.counter_bank.specs.Account.{first_seat, most_slots};
 ghost use Rattle.lane_table.specs.Lanes.{seats_from};
 ghost use Rattle.p4_types.specs.declared.tape.TapeRecord.{TapeRecord};
-ghost use Rattle.plane_spec.specs.Entries.{slot_limit};
 ghost use Rattle.replay_run.specs.Ends.{HasAsked, HasTaken};
 ghost use Rattle.replay_run.specs.Opening.{AreParts, IsAsker, IsTaker, SeesRun, without_parts};
 ghost use Rattle.replay_run.specs.Running.{IsRunReport};
@@ -41,7 +40,7 @@ fn close<J: Naming>(
     rest: Seat,
     ended: Passes<J>,
 ) -> Result<Report, NoMemory>
-    requires slots { closed.bank.slots ≡ slot_limit }
+    requires slots { closed.bank.slots ≡ J.start.slots }
     requires rest { rest ≡ without_parts 48 (first_seat J.bank) }
     requires callers { OfEach HasAsked 32 ended.0.items }
     requires workers { OfEach HasTaken 16 ended.1.items }
@@ -110,7 +109,7 @@ fn seat_lanes<J: Naming, R: Wait + Drop>(
     requires list { publisher.told.list ≡ J.list }
     requires bank { parts.bank.id ≡ J.bank }
     requires table { parts.table ≡ J.table }
-    ensures slots { IfOk result (λ r. r.0.slots ≡ slot_limit) }
+    ensures slots { IfOk result (λ r. r.0.slots ≡ start.slots) }
     ensures rest { IfOk result (λ r. r.1 ≡ without_parts 48 (first_seat J.bank)) }
     ensures callers { IfOk result (λ r. OfEach IsAsker 32 r.2.0.items) }
     ensures workers { IfOk result (λ r. OfEach IsTaker 16 r.2.1.items) }
@@ -167,7 +166,7 @@ fn play_freely<J: Naming + Send + Sync, T: Threads + Wait + Sync, G: Gate + Sync
 
 /// Replays a tape, each of its lanes on a thread of its own: a controller's lane makes its calls, one after another, and runs
 /// the packets that they make enter; a worker's lane runs its packets on snapshots of the control state, and waits at its
-/// meets. The gate is asked before each call and each packet. Where no thread can be made the lanes run one after another,
+/// meets. The gate is asked before each call and each packet. There are 1 to 1,048,576 slots of counters. Where no thread can be made the lanes run one after another,
 /// the controllers' first.
 pub fn replay_free<T: Threads + Wait + Sync, G: Gate + Sync>(
     rt: &T,
@@ -176,6 +175,7 @@ pub fn replay_free<T: Threads + Wait + Sync, G: Gate + Sync>(
     start: Start,
     tape: List<TapeRecord>,
 ) -> Result<Report, NoMemory>
+    requires slots { (0 < start.slots) × (start.slots ≤ most_slots) }
     requires each { AllByRecursion IsRecord tape }
     requires number { length tape ≤ 1000000 }
     ensures { IfOk result (IsRunReport start tape) }
@@ -223,6 +223,7 @@ pub fn replay_in_order<T: Threads + Wait + Sync>(
     start: Start,
     tape: List<TapeRecord>,
 ) -> Result<Report, NoMemory>
+    requires slots { (0 < start.slots) × (start.slots ≤ most_slots) }
     requires each { AllByRecursion IsRecord tape }
     requires number { length tape ≤ 1000000 }
     ensures { IfOk result (IsRunReport start tape) }

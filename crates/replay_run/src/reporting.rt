@@ -4,7 +4,6 @@ ghost use Rattle.std.specs.List.{AllByRecursion};
 ghost use Rattle.counter_bank.specs.Account.{first_seat};
 ghost use Rattle.ctl_lock.specs.Calls.{journal_of};
 ghost use Rattle.p4_types.specs.declared.tape.TapeRecord.{TapeRecord};
-ghost use Rattle.plane_spec.specs.Entries.{slot_limit};
 ghost use Rattle.replay_run.specs.Ends.{IsSeated};
 ghost use Rattle.replay_run.specs.Opening.{without_parts};
 ghost use Rattle.replay_run.specs.Running.{IsRunReport};
@@ -41,7 +40,7 @@ pub fn report<J: Naming>(
     workers: Vec<LaneWork>,
     callers: Vec<LaneWork>,
 ) -> Result<Report, NoMemory>
-    requires slots { closed.bank.slots ≡ slot_limit }
+    requires slots { closed.bank.slots ≡ J.start.slots }
     requires rest { rest ≡ without_parts 48 (first_seat J.bank) }
     requires called { OfEach (HasCalled closed.told J.calls (journal_of closed.journal)) 32 callers.items }
     requires read { OfEach (HasRead J.start closed.journal) 32 callers.items }

@@ -7,13 +7,11 @@ use Rattle.std.proofs.lemmas.List.Folds.{find_at}
 use Rattle.std.proofs.lemmas.Option.{slice_get_past, slice_get_read}
 use Rattle.p4_types.specs.declared.code.ArbitrationRule.{ArbitrationRule}
 use Rattle.p4_types.specs.declared.code.ArbitrationRule.TheVariants as rules
-use Rattle.p4_types.specs.declared.messages.MasterArbitrationUpdate.{MasterArbitrationUpdate}
+use Rattle.p4_types.specs.declared.calls.ArbitrationUpdate.{ArbitrationUpdate}
 use Rattle.p4_types.specs.declared.messages.Uint128.{Uint128}
 use Rattle.role_arbiter.specs.declared.sessions.NamedRole.{NamedRole}
 use Rattle.role_arbiter.specs.declared.sessions.Session.{Session}
 use Rattle.role_arbiter.specs.Arbitration.{cause, has_other_role, id_is_taken, received, greater}
-use Rattle.p4v1_read.specs.RoleConfigs.{role_config_of}
-use Rattle.role_arbiter.specs.RoleOf.{role_of}
 use Rattle.role_arbiter.specs.Laws.{IsRising, IsSound}
 use Rattle.role_arbiter.specs.Placing.{place_of, place_of_role, placed_at, has_role_beside, lacks, cause_at}
 use Rattle.role_arbiter.specs.State.{RolesState, session_in, greatest_in}
@@ -67,19 +65,19 @@ abbrev by_tests : (other unread taken lacks : Bool) → Option ArbitrationRule
 by_tests other unread taken lacks = cond other (Some rules.A2) (cond unread (Some rules.A3) (cond taken (Some rules.A4) (cond lacks (Some rules.A5) None)))
 
 -- the rule that an update breaks
-pub cause_placed : (state : RolesState) (caller : ℕ) (update : MasterArbitrationUpdate) → IsSound state
-    → cause state caller update ≡ cause_at state (place_of state.sessions caller) (place_of_role state.named (role_of update.role)) caller update
+pub cause_placed : (state : RolesState) (caller : ℕ) (update : ArbitrationUpdate) → IsSound state
+    → cause state caller update ≡ cause_at state (place_of state.sessions caller) (place_of_role state.named update.role) caller update
 cause_placed state caller update sound =
-    let role = role_of update.role in
-    let unread = is_none (role_config_of update.role) in
+    let role = update.role in
+    let unread = is_none update.config in
     let taken = id_is_taken state.sessions caller role update.election_id in
     ap₂ (λ (b c : Bool). by_tests b unread taken c)
     (other_role state.sessions caller role sound.rising ∙ ap (has_role_beside role) (sym (found_at (of_caller caller) state.sessions)))
     (ap₂ (λ (b c : Bool). b || c) (lacks_placed 32 (of_caller caller) state.sessions) (lacks_placed 64 (of_role role) state.named))
 
 -- the same, where the places are those
-pub judged : (inside state : RolesState) (place known : Option ℕ) (caller : ℕ) (update : MasterArbitrationUpdate) (answer : Option ArbitrationRule) → IsSound inside → inside ≡ state
-    → place ≡ place_of state.sessions caller → known ≡ place_of_role state.named (role_of update.role) → cause_at state place known caller update ≡ answer → cause state caller update ≡ answer
+pub judged : (inside state : RolesState) (place known : Option ℕ) (caller : ℕ) (update : ArbitrationUpdate) (answer : Option ArbitrationRule) → IsSound inside → inside ≡ state
+    → place ≡ place_of state.sessions caller → known ≡ place_of_role state.named update.role → cause_at state place known caller update ≡ answer → cause state caller update ≡ answer
 judged inside state place known caller update answer sound is e f h =
     cause_placed state caller update (subst IsSound is sound) ∙ ap₂ (λ (p k : Option ℕ). cause_at state p k caller update) (sym e) (sym f) ∙ h
 

@@ -3,7 +3,7 @@ use Rattle.std.proofs.Common.{◌≡◌, ◌≢◌, ℕ, suc, ◌<◌, ◌≤◌
 use Rattle.std.specs.List.{AllByRecursion as Each, filter, list_any}
 use Rattle.std.proofs.lemmas.Bool.{false≢true}
 use Rattle.std.proofs.lemmas.Bool.Decides.{nat_tests}
-use Rattle.p4_types.specs.declared.messages.MasterArbitrationUpdate.{MasterArbitrationUpdate}
+use Rattle.p4_types.specs.declared.calls.ArbitrationUpdate.{ArbitrationUpdate}
 use Rattle.p4_types.specs.declared.messages.Uint128.{Uint128}
 use Rattle.role_arbiter.specs.declared.sessions.Session.{Session}
 use Rattle.role_arbiter.specs.Arbitration.{cause, asked, arbitrated, left, is_refused, has_other_role, has_session, id_is_taken, lacks_session, lacks_role, replaced, inserted, received}
@@ -244,7 +244,7 @@ entered state new sound accepted =
       few_roles = few_roles state.named new.role new.election_id sound.few_roles free.2;
     }
 
-arbitration : (state : RolesState) (caller : ℕ) (update : MasterArbitrationUpdate) → IsSound state → cause state caller update ≡ None → IsSound (arbitrated state (asked caller update))
+arbitration : (state : RolesState) (caller : ℕ) (update : ArbitrationUpdate) → IsSound state → cause state caller update ≡ None → IsSound (arbitrated state (asked caller update))
 arbitration state caller update sound accepted = entered state (asked caller update) sound (not_refused state caller update accepted)
 
 pub at_first : IsSound no_roles

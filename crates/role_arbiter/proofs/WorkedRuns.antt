@@ -1,11 +1,8 @@
 -- A run of two lanes, computed.
 use Rattle.std.proofs.Common.{refl}
-use Rattle.wire_fields.specs.Reading.{varint_in}
-use Rattle.wire_messages.specs.Message.{packed_in}
 use Rattle.role_arbiter.specs.Laws.{WorkedRun}
 
 pub worked_run : WorkedRun
-unfolding packed_in varint_in
 worked_run = record {
   first_accepted = refl;
   first_told = refl;
@@ -19,5 +16,4 @@ worked_run = record {
   again_accepted = refl;
   again_told = refl;
   again_status = refl;
-  ids = refl;
 }

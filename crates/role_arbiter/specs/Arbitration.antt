@@ -1,14 +1,12 @@
 -- An arbitration: why it is refused, and what it makes of the sessions (P4Runtime 1.3.0, "Mastership Arbitration"; limits: this project's profile).
-use Rattle.std.specs.Prelude.{ℕ, ◌==◌, nat_lt, nat_le, Bool, ◌&&◌, ◌||◌, not, if◌then◌else◌, List, [], ◌∷◌, length, filter, Option, Some, None, is_none, unwrap_or}
+use Rattle.std.specs.Prelude.{ℕ, ◌<◌, ◌≤◌, ◌^◌, ◌==◌, All, nat_lt, nat_le, Bool, ◌&&◌, ◌||◌, not, if◌then◌else◌, List, [], ◌∷◌, length, filter, Option, Some, None, is_none, unwrap_or}
 use Rattle.std.specs.List.{list_any}
 use Rattle.p4_types.specs.declared.code.ArbitrationRule.{ArbitrationRule}
 use Rattle.p4_types.specs.declared.code.ArbitrationRule.TheVariants as rules
-use Rattle.p4_types.specs.declared.messages.MasterArbitrationUpdate.{MasterArbitrationUpdate}
+use Rattle.p4_types.specs.declared.calls.ArbitrationUpdate.{ArbitrationUpdate}
 use Rattle.p4_types.specs.declared.messages.Uint128.{Uint128}
 use Rattle.role_arbiter.specs.declared.sessions.Session.{Session}
 use Rattle.role_arbiter.specs.declared.sessions.NamedRole.{NamedRole}
-use Rattle.p4v1_read.specs.RoleConfigs.{role_config_of}
-use Rattle.role_arbiter.specs.RoleOf.{role_of}
 use Rattle.role_arbiter.specs.Election.{election_number}
 use Rattle.role_arbiter.specs.State.{RolesState, bears}
 
@@ -37,17 +35,17 @@ abbrev pub lacks_role : List NamedRole → ℕ → Bool
 lacks_role named role = not (is_named named role) && nat_le 64 (length named)
 
 -- the first rule of A2 to A5 that an update of a caller breaks, if it breaks one; the device (A1) is looked at before
-abbrev pub cause : RolesState → ℕ → MasterArbitrationUpdate → Option ArbitrationRule
+abbrev pub cause : RolesState → ℕ → ArbitrationUpdate → Option ArbitrationRule
 cause state caller update =
-    if has_other_role state.sessions caller (role_of update.role) then Some rules.A2
-    else if is_none (role_config_of update.role) then Some rules.A3
-    else if id_is_taken state.sessions caller (role_of update.role) update.election_id then Some rules.A4
-    else if lacks_session state.sessions caller || lacks_role state.named (role_of update.role) then Some rules.A5
+    if has_other_role state.sessions caller update.role then Some rules.A2
+    else if is_none update.config then Some rules.A3
+    else if id_is_taken state.sessions caller update.role update.election_id then Some rules.A4
+    else if lacks_session state.sessions caller || lacks_role state.named update.role then Some rules.A5
     else None
 
 -- the session that an update asks for
-abbrev pub asked : ℕ → MasterArbitrationUpdate → Session
-asked caller update = record { caller = caller; role = role_of update.role; election_id = update.election_id; config = unwrap_or (role_config_of update.role) None }
+abbrev pub asked : ℕ → ArbitrationUpdate → Session
+asked caller update = record { caller = caller; role = update.role; election_id = update.election_id; config = unwrap_or update.config None }
 
 -- the session in the place of its caller's
 abbrev pub replaced : List Session → Session → List Session
@@ -89,3 +87,8 @@ settled state new = if is_refused state new then state else arbitrated state new
 -- the state after a caller's session ended, if it had one; what its role received stays
 abbrev pub left : RolesState → ℕ → RolesState
 left state caller = record state { sessions = filter (λ session. not (session.caller == caller)) state.sessions }
+
+-- What a configuration of a role may be: none, or at most 128 ids of 32 bits. Role 0 has none.
+abbrev pub IsServedConfig : ℕ → Option (List ℕ) → Type 0
+IsServedConfig role None = Unit {0}
+IsServedConfig role (Some ids) = (0 < role) × (length ids ≤ 128) × All (λ id. id < 2 ^ 32) ids

@@ -1,13 +1,12 @@
 -- Laws of roles and their sessions.
-use Rattle.std.specs.Prelude.{◌≡◌, ◌≢◌, ℕ, ◌<◌, ◌≤◌, max, true, false, List, [], ◌∷◌, length, map, Some, None, ◌⊎◌, codes as text}
+use Rattle.std.specs.Prelude.{◌≡◌, ◌≢◌, ℕ, ◌<◌, ◌≤◌, max, true, false, List, [], ◌∷◌, length, map, Some, None, ◌⊎◌}
 use Rattle.std.specs.List.{AllByRecursion as Each}
 use Rattle.p4_types.specs.declared.code.Code.TheVariants as codes
-use Rattle.p4_types.specs.declared.messages.MasterArbitrationUpdate.{MasterArbitrationUpdate}
+use Rattle.p4_types.specs.declared.calls.ArbitrationUpdate.{ArbitrationUpdate}
 use Rattle.p4_types.specs.declared.messages.Uint128.{Uint128}
 use Rattle.role_arbiter.specs.declared.sessions.Session.{Session}
 use Rattle.role_arbiter.specs.declared.sessions.NamedRole.{NamedRole}
 use Rattle.role_arbiter.specs.Arbitration.{cause, asked, arbitrated, left, received}
-use Rattle.p4v1_read.specs.RoleConfigs.{role_config_of}
 use Rattle.role_arbiter.specs.Election.{election_number}
 use Rattle.role_arbiter.specs.State.{RolesState, no_roles, greatest_in, bears, primary_of, status_of}
 use Rattle.role_arbiter.specs.Telling.{is_caller, told_at_arbitration, told_at_leave}
@@ -46,7 +45,7 @@ pub record IsSound (state : RolesState) : Type 0 where
 -- The first state is sound, and each step keeps it so.
 pub record StaysSound : Type 0 where
   pub at_first : IsSound no_roles
-  pub arbitration : (state : RolesState) (caller : ℕ) (update : MasterArbitrationUpdate) → IsSound state → cause state caller update ≡ None → IsSound (arbitrated state (asked caller update))
+  pub arbitration : (state : RolesState) (caller : ℕ) (update : ArbitrationUpdate) → IsSound state → cause state caller update ≡ None → IsSound (arbitrated state (asked caller update))
   pub leave : (state : RolesState) (caller : ℕ) → IsSound state → IsSound (left state caller)
 
 -- What a role received is never forgotten: its greatest election id is the greater of the one before and the one that it receives, and that of no other role changes.
@@ -65,12 +64,12 @@ pub record NobodyTakesOver : Type 0 where
 
 -- Who is told is told once, by rising lane.
 pub record ToldInOrder : Type 0 where
-  pub arbitration : (state : RolesState) (caller : ℕ) (update : MasterArbitrationUpdate) → IsSound state → cause state caller update ≡ None → IsRising (told_at_arbitration state (asked caller update))
+  pub arbitration : (state : RolesState) (caller : ℕ) (update : ArbitrationUpdate) → IsSound state → cause state caller update ≡ None → IsRising (told_at_arbitration state (asked caller update))
   pub leave : (state : RolesState) (caller : ℕ) → IsSound state → IsRising (told_at_leave state caller)
 
 -- an update of role 0 without a configuration
-abbrev pub plain_update : ℕ → MasterArbitrationUpdate
-plain_update id = record { device_id = 1; role = None; election_id = record { high = 0; low = id }; status = None }
+abbrev pub plain_update : ℕ → ArbitrationUpdate
+plain_update id = record { role = 0; election_id = record { high = 0; low = id }; config = Some None }
 
 -- the state after one lane brings such an update
 abbrev pub after_update : RolesState → ℕ → ℕ → RolesState
@@ -106,5 +105,3 @@ pub record WorkedRun : Type 0 where
   pub again_accepted : cause without_first 1 (plain_update 6) ≡ None
   pub again_told : told_at_arbitration without_first (asked 1 (plain_update 6)) ≡ 1 ∷ []
   pub again_status : status_of with_second 1 ≡ Some codes.Ok
-  -- one table's id, packed
-  pub ids : role_config_of (Some (record { id = 7; config = Some (record { type_url = text "p4switch/ids"; value = 0x82 ∷ 0x80 ∷ 0x80 ∷ 0x10 ∷ [] }) })) ≡ Some (Some (33554434 ∷ []))

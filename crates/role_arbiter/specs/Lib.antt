@@ -1,6 +1,5 @@
 pub mod Election
 pub mod State
-pub mod RoleOf
 pub mod Arbitration
 pub mod Placing
 pub mod Telling

@@ -3,13 +3,11 @@ use Rattle.std.specs.Prelude.{◌≡◌, ℕ, ◌==◌, Bool, false, not, nat_le
 use Rattle.std.specs.List.{slice_get}
 use Rattle.p4_types.specs.declared.code.ArbitrationRule.{ArbitrationRule}
 use Rattle.p4_types.specs.declared.code.ArbitrationRule.TheVariants as rules
-use Rattle.p4_types.specs.declared.messages.MasterArbitrationUpdate.{MasterArbitrationUpdate}
+use Rattle.p4_types.specs.declared.calls.ArbitrationUpdate.{ArbitrationUpdate}
 use Rattle.role_arbiter.specs.declared.sessions.NamedRole.{NamedRole}
 use Rattle.role_arbiter.specs.declared.sessions.Placed.{Placed}
 use Rattle.role_arbiter.specs.declared.sessions.Session.{Session}
 use Rattle.role_arbiter.specs.Arbitration.{id_is_taken}
-use Rattle.p4v1_read.specs.RoleConfigs.{role_config_of}
-use Rattle.role_arbiter.specs.RoleOf.{role_of}
 use Rattle.role_arbiter.specs.State.{RolesState}
 
 -- where a caller's session stands among the live ones, if it has one
@@ -40,10 +38,10 @@ abbrev pub lacks : {X : Type 0} → ℕ → Option ℕ → List X → Bool
 lacks limit place xs = is_none place && nat_le limit (length xs)
 
 -- the first rule of A2 to A5 that an update breaks, by the places of its caller's session and of its role
-abbrev pub cause_at : RolesState → Option ℕ → Option ℕ → ℕ → MasterArbitrationUpdate → Option ArbitrationRule
+abbrev pub cause_at : RolesState → Option ℕ → Option ℕ → ℕ → ArbitrationUpdate → Option ArbitrationRule
 cause_at state place known caller update =
-    if has_role_beside (role_of update.role) (placed_at place state.sessions) then Some rules.A2
-    else if is_none (role_config_of update.role) then Some rules.A3
-    else if id_is_taken state.sessions caller (role_of update.role) update.election_id then Some rules.A4
+    if has_role_beside update.role (placed_at place state.sessions) then Some rules.A2
+    else if is_none update.config then Some rules.A3
+    else if id_is_taken state.sessions caller update.role update.election_id then Some rules.A4
     else if lacks 32 place state.sessions || lacks 64 known state.named then Some rules.A5
     else None

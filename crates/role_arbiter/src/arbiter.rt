@@ -3,10 +3,8 @@ ghost use Rattle.std.specs.Prelude.{◌≡◌, false, None, Some, IfOk, IfErr, O
 ghost use Rattle.std.specs.Option.{option_map, option_copied};
 ghost use Rattle.role_arbiter.specs.State.{RolesState, no_roles, session_in, greatest_in, primary_of, status_by, status_of};
 ghost use Rattle.role_arbiter.specs.Arbitration.{cause, asked, arbitrated, left, is_refused, inserted};
-ghost use Rattle.p4v1_read.specs.RoleConfigs.{role_config_of};
 ghost use Rattle.role_arbiter.specs.Laws.{IsSound};
 ghost use Rattle.role_arbiter.specs.Placing.{IsPlaced, placed_at, cause_at};
-ghost use Rattle.role_arbiter.specs.RoleOf.{role_of};
 ghost use Rattle.role_arbiter.specs.Undo.{session_back, named_back};
 ghost use Rattle.role_arbiter.specs.Telling.{told_at_arbitration, told_at_leave};
 
@@ -14,10 +12,10 @@ use crate::changes::{self, ROLE_LIMIT};
 use crate::numbers::{Lanes, SESSION_LIMIT};
 use crate::sessions::{self, NamedRole, Placed, Session};
 use list_types::NoMemory;
+use p4_types::calls::ArbitrationUpdate;
 use p4_types::code::{ArbitrationRule, Code};
 use p4_types::ids::Ids;
-use p4_types::messages::{MasterArbitrationUpdate, Role, Uint128};
-use p4v1_read::role_config_of;
+use p4_types::messages::Uint128;
 use std::alloc::Global;
 use std::marker::Model;
 
@@ -131,35 +129,31 @@ impl Roles {
         }
     }
 
-    // The configuration that an update gives, or the first rule of A2 to A5 that it breaks, by the places of its
-    // caller's session and of its role.
+    // The first rule of A2 to A5 that an update breaks, by the places of its caller's session and of its role.
     fn judge(
         &self,
         place: Option<usize>,
         known: Option<usize>,
         caller: u16,
-        update: &MasterArbitrationUpdate,
-    ) -> Result<Option<Ids>, ArbitrationRule>
-        ensures accepted { OnOk result (cause_at self.now place known caller update.now ≡ None) }
-        ensures config { IfOk result (λ config. config ≡ unwrap_or (role_config_of update.now.role) None) }
-        ensures refused { IfErr result (λ refused. cause_at self.now place known caller update.now ≡ Some refused) }
+        update: &ArbitrationUpdate,
+    ) -> Option<ArbitrationRule>
+        ensures { result ≡ cause_at self.now place known caller update.now }
     {
-        let role = role_of(&update.role);
-        if sessions::has_role_beside(sessions::session_at(&self.sessions, place), role) {
-            return Err(ArbitrationRule::A2);
+        if sessions::has_role_beside(sessions::session_at(&self.sessions, place), update.role) {
+            return Some(ArbitrationRule::A2);
         }
-        let Ok(config) = role_config_of(&update.role) else {
-            return Err(ArbitrationRule::A3);
-        };
-        if changes::id_is_taken(&self.sessions, caller, role, update.election_id) {
-            return Err(ArbitrationRule::A4);
+        if update.config.is_none() {
+            return Some(ArbitrationRule::A3);
+        }
+        if changes::id_is_taken(&self.sessions, caller, update.role, update.election_id) {
+            return Some(ArbitrationRule::A4);
         }
         if changes::lacks_session(&self.sessions, place)
             || changes::lacks_role(&self.named, known)
         {
-            return Err(ArbitrationRule::A5);
+            return Some(ArbitrationRule::A5);
         }
-        Ok(config)
+        None
     }
 
     /// A session with where the roles have what it takes the place of.
@@ -178,63 +172,38 @@ impl Roles {
 
     /// The session that an update would give its caller, or the first rule of A2 to A5 that it
     /// breaks. The device (A1) is the caller's to look at. Nothing changes.
-    pub fn check(
-        &self,
-        caller: u16,
-        update: &MasterArbitrationUpdate,
-    ) -> Result<Placed, ArbitrationRule>
-        ensures accepted { OnOk result (cause self.now caller update.now ≡ None) }
-        ensures session { IfOk result (λ new. new.session ≡ asked caller update.now) }
+    pub fn check(&self, caller: u16, update: ArbitrationUpdate) -> Result<Placed, ArbitrationRule>
+        ensures accepted { OnOk result (cause self.now caller update ≡ None) }
+        ensures session { IfOk result (λ new. new.session ≡ asked caller update) }
         ensures placed { IfOk result (λ new. IsPlaced self.now new) }
-        ensures refused { IfErr result (λ refused. cause self.now caller update.now ≡ Some refused) }
+        ensures refused { IfErr result (λ refused. cause self.now caller update ≡ Some refused) }
     {
-        let role = role_of(&update.role);
         let place = changes::place_of(&self.sessions, caller);
-        let known = changes::place_of_role(&self.named, role);
-        match self.judge(place, known, caller, update) {
-            Ok(config) => Ok(Placed {
-                session: Session {
-                    caller,
-                    role,
-                    election_id: update.election_id,
-                    config,
-                },
-                place,
-                known,
-            }),
-            Err(rule) => Err(rule),
+        let known = changes::place_of_role(&self.named, update.role);
+        if let Some(rule) = self.judge(place, known, caller, &update) {
+            return Err(rule);
         }
+        Ok(Placed {
+            session: session_of(caller, update),
+            place,
+            known,
+        })
     }
 
     /// Arbitration by the rules A2 to A5. A refusal changes nothing.
     pub fn arbitrate(
         &mut self,
         caller: u16,
-        update: &MasterArbitrationUpdate,
+        update: ArbitrationUpdate,
     ) -> Result<(), ArbitrationRule>
-        ensures accepted { OnOk result (cause self.old caller update.now ≡ None) }
-        ensures step { OnOk result (self.new ≡ arbitrated self.old (asked caller update.now)) }
-        ensures refused { IfErr result (λ refused. cause self.old caller update.now ≡ Some refused) }
-        ensures kept { OnErr result (self.new ≡ self.old) }
-    {
-        self.arbitrate_and_tell(caller, update)?;
-        Ok(())
-    }
-
-    /// The same as `arbitrate`, with the lanes that are to be told of it.
-    pub fn arbitrate_and_tell(
-        &mut self,
-        caller: u16,
-        update: &MasterArbitrationUpdate,
-    ) -> Result<Lanes, ArbitrationRule>
-        ensures accepted { OnOk result (cause self.old caller update.now ≡ None) }
-        ensures step { OnOk result (self.new ≡ arbitrated self.old (asked caller update.now)) }
-        ensures told { IfOk result (λ lanes. lanes ≡ told_at_arbitration self.old (asked caller update.now)) }
-        ensures refused { IfErr result (λ refused. cause self.old caller update.now ≡ Some refused) }
+        ensures accepted { OnOk result (cause self.old caller update ≡ None) }
+        ensures step { OnOk result (self.new ≡ arbitrated self.old (asked caller update)) }
+        ensures refused { IfErr result (λ refused. cause self.old caller update ≡ Some refused) }
         ensures kept { OnErr result (self.new ≡ self.old) }
     {
         let new = self.check(caller, update)?;
-        Ok(self.enter(new))
+        self.enter(new);
+        Ok(())
     }
 
     /// The step alone, for a session that `check` gave, with the lanes that are to be told of it.
@@ -310,11 +279,17 @@ impl Roles {
     }
 }
 
-fn role_of(role: &Option<Role>) -> u64
-    ensures { result ≡ role_of role.now }
+// The session that an update asks for.
+fn session_of(caller: u16, update: ArbitrationUpdate) -> Session
+    ensures { result ≡ asked caller update }
 {
-    match role {
-        None => 0,
-        Some(role) => role.id,
+    Session {
+        caller,
+        role: update.role,
+        election_id: update.election_id,
+        config: match update.config {
+            Some(config) => config,
+            None => None,
+        },
     }
 }

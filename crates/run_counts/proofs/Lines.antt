@@ -12,7 +12,7 @@ use Rattle.p4_types.specs.declared.table.Entry.{Entry}
 use Rattle.plane_spec.proofs.Lists.{All-weaken}
 use Rattle.plane_spec.proofs.SoundPlanes.{planes_stay_sound}
 use Rattle.plane_spec.specs.Config.{cells_in}
-use Rattle.plane_spec.specs.Entries.{slot_limit}
+use Rattle.plane_spec.proofs.Steady.{slots_are}
 use Rattle.plane_spec.specs.PlaneLaws.{IsSoundControl, numbers_from, slots_of}
 use Rattle.plane_spec.specs.Planes.{ControlState, Plane}
 use Rattle.run_counts.proofs.Lists.{each_front, each_back}
@@ -78,16 +78,16 @@ plane_alike g h (Some plane) same =
     )
 
 -- the slots of the active plane are among those that the switch has
-slots_within : (c : ControlState) → IsSoundControl c → AllByRecursion (λ slot. slot < slot_limit) (slots_of c.active)
+slots_within : (c : ControlState) → IsSoundControl c → AllByRecursion (λ slot. slot < c.slots) (slots_of c.active)
 slots_within c sound =
-    each_front (λ slot. slot < slot_limit) (slots_of c.active) (slots_of c.staged)
-    (All-weaken (λ slot. slot < c.next_slot) (λ slot. slot < slot_limit) (λ slot below. omega (arith, sound.slot_limit)) _ (recursion_from_All (λ slot. slot < c.next_slot) _ sound.slots))
+    each_front (λ slot. slot < c.slots) (slots_of c.active) (slots_of c.staged)
+    (All-weaken (λ slot. slot < c.next_slot) (λ slot. slot < c.slots) (λ slot below. omega (arith, sound.slot_limit)) _ (recursion_from_All (λ slot. slot < c.next_slot) _ sound.slots))
 
 pub totals_are_counts : TotalsAreCounts
 totals_are_counts start tape journal records totals run within are_words =
     let c : ControlState = final start journal in
-    let agree : (slot : ℕ) → slot < slot_limit → Agree totals (figures_of records) slot = λ slot below. are_words slot below ∙ words_are_exact records slot within in
-    let slots = slots_within c (planes_stay_sound start (published start journal) run.legal) in
-    let alike = plane_alike totals (figures_of records) c.active (All-weaken (λ slot. slot < slot_limit) (Agree totals (figures_of records)) agree (slots_of c.active) slots) in
+    let agree : (slot : ℕ) → slot < start.slots → Agree totals (figures_of records) slot = λ slot below. are_words slot below ∙ words_are_exact records slot within in
+    let slots = subst (λ (most : ℕ). AllByRecursion (λ slot. slot < most) (slots_of c.active)) (slots_are start (published start journal)) (slots_within c (planes_stay_sound start (published start journal) run.legal)) in
+    let alike = plane_alike totals (figures_of records) c.active (All-weaken (λ slot. slot < start.slots) (Agree totals (figures_of records)) agree (slots_of c.active) slots) in
     let kept = counters_keep_records start (published start journal) records run.legal run.fits in
     (alike.0 ∙ kept.0, alike.1 ∙ kept.1)

@@ -3,7 +3,6 @@ use Rattle.std.specs.Prelude.{◌≡◌, ℕ, ◌+◌, ◌%◌, ◌^◌, ◌<◌
 use Rattle.std.specs.List.{AllByRecursion}
 use Rattle.p4_types.specs.declared.events.Start.{Start}
 use Rattle.p4_types.specs.declared.tape.TapeRecord.{TapeRecord}
-use Rattle.plane_spec.specs.Entries.{slot_limit}
 use Rattle.run_counts.specs.Packets.{IsShort}
 use Rattle.run_spec.specs.Report.{IsRun}
 use Rattle.switch_spec.specs.Carrying.{final}
@@ -36,6 +35,6 @@ CountsAreExact = (records : List Carried) (slot : ℕ) → AreWithin records →
 -- slots that the switch has are asked for.
 abbrev pub TotalsAreCounts : Type 0
 TotalsAreCounts = (start : Start) (tape : List TapeRecord) (journal : List Made) (records : List Carried) (totals : Figures)
-    → IsRun start tape journal records → AreWithin records → ((slot : ℕ) → slot < slot_limit → totals slot ≡ in_words (figures_of records) slot)
+    → IsRun start tape journal records → AreWithin records → ((slot : ℕ) → slot < start.slots → totals slot ≡ in_words (figures_of records) slot)
     → (count_lines totals (final start journal).active ≡ counts_in (final start journal).active records)
     × (cell_lines totals (final start journal).active ≡ cells_in (final start journal).active records)

@@ -142,6 +142,7 @@ fn take<J: Naming, R: Wait + Drop, W: Wait>(
 ) -> Result<(), NoMemory>
     requires item { IsItem item }
     requires list { work.old.told.list ≡ J.list }
+    requires start { work.old.told.start ≡ J.start }
     requires bank { work.old.seat.bank ≡ J.bank }
     ensures taken { OnOk result (Takes item mets.old.items mets.new.items work.old work.new) }
 {

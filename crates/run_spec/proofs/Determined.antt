@@ -217,14 +217,20 @@ determined start whole list p (Meet lane controller call ∷ tape) journal recor
     determined start whole list p tape journal records h
     (record { follows = rest.follows; history = rest.history; none_refused = rest.none_refused; numbered = rest.numbered; in_turn = rest.in_turn; fits = rest.fits; is = rest.is })
 
+-- a lockstep run with no call refused for memory is the run in one pass
+pub only_run : (start : Start) (tape : List TapeRecord) (text : List ℕ) (a : IsLockstepReport start tape text) → NoneRefused a.report.journal
+    → (a.report.journal ≡ made (begun start) (map answering tape)) × (a.report.records ≡ carried (begun start) (map answering tape))
+only_run start tape text a none =
+    let run = a.report.run in
+    determined start (published start a.report.journal) [] (begun start) tape a.report.journal a.report.records
+    (record { control = refl; steps = refl; all_steps = refl })
+    (record { follows = a.lockstep; history = run.history; none_refused = none; numbered = run.numbered; in_turn = run.in_turn; fits = run.fits; is = refl })
+
 -- a lockstep report with no call refused for memory has the text of the run in one pass
 pub only_text : (start : Start) (tape : List TapeRecord) (text : List ℕ) (a : IsLockstepReport start tape text) → NoneRefused a.report.journal
     → text ≡ report_text (report_of start tape (made (begun start) (map answering tape)) (carried (begun start) (map answering tape)))
 only_text start tape text a none =
-    let run = a.report.run in
-    let same = determined start (published start a.report.journal) [] (begun start) tape a.report.journal a.report.records
-    (record { control = refl; steps = refl; all_steps = refl })
-    (record { follows = a.lockstep; history = run.history; none_refused = none; numbered = run.numbered; in_turn = run.in_turn; fits = run.fits; is = refl }) in
+    let same = only_run start tape text a none in
     a.report.written ∙ ap (λ j. report_text (report_of start tape j a.report.records)) same.0 ∙ ap (λ r. report_text (report_of start tape (made (begun start) (map answering tape)) r)) same.1
 
 pub tape_determines : TapeDeterminesReport

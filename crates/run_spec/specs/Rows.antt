@@ -12,11 +12,11 @@ use Rattle.run_spec.specs.Tape.{tape_bytes}
 
 -- with what `replay --lockstep --bridge` starts
 abbrev pub bridge_start : Start
-bridge_start = record { device = 1; cpu = 255; rows = 16384; bridge = true }
+bridge_start = record { device = 1; cpu = 255; rows = 16384; slots = 1048576; bridge = true }
 
 -- with what `replay --lockstep` starts
 abbrev pub bare_start : Start
-bare_start = record { device = 1; cpu = 255; rows = 16384; bridge = false }
+bare_start = record { device = 1; cpu = 255; rows = 16384; slots = 1048576; bridge = false }
 
 -- the tape is spelled so in hex, and this is its report
 pub record IsWorked (start : Start) (tape : List TapeRecord) (spelled text : List ℕ) : Type 0 where

@@ -6,6 +6,7 @@ mod clock;
 mod ending;
 mod hall;
 pub mod laws;
+mod link_pass;
 mod live;
 mod opening;
 mod ports;
@@ -16,6 +17,7 @@ mod sharing;
 mod threads;
 
 pub use ending::ServeEnd;
+pub use link_pass::{LinkPass, with_verdicts};
 pub use opening::{MOST_WORKERS, Serving, serve};
 pub use ports::serve_ports;
 pub use ports_end::PortsEnd;

@@ -1,9 +1,10 @@
 //! The desk of a switch that serves, as its threads use it.
+use crate::link_pass::LinkPass;
 use crate::ports::serve_ports;
 use crate::served::ServedDesk;
 use crate::shared_desk::{LanePass, SharedDesk};
 use link_loop::serve_link;
-use live_desk::{DeskWorker, LiveDesk, Naming, Pass};
+use live_desk::{DeskWorker, LiveDesk, Naming};
 use p4_types::calls::Call;
 use p4_types::code::Code;
 use std::alloc::Global;
@@ -11,16 +12,21 @@ use std::sync::Wait;
 use std::thread::yield_now;
 use sw_edge::{Clock, Link, Ports, Stop};
 
-impl<J: Naming + Send> LanePass for Pass<J> {
+impl<J: Naming + Send> LanePass for LinkPass<J> {
     fn place(&self) -> usize {
-        usize::from(self.lane())
+        usize::from(self.pass.lane())
     }
 }
 
 // Ends what is left of a controller's session, for which it asks as often as there is no memory for it.
-fn leave<J: Naming, R: Wait + Drop, W: Wait>(rt: &W, desk: &LiveDesk<J, R>, pass: &mut Pass<J>) {
+fn leave<J: Naming, R: Wait + Drop, W: Wait>(
+    rt: &W,
+    desk: &LiveDesk<J, R>,
+    link: &mut LinkPass<J>,
+) {
     for _ in rt.forever() {
-        if !matches!(desk.ask(pass, &Call::Leave).code, Code::Unavailable) {
+        let reply = desk.ask(&mut link.pass, &Call::Leave, &mut link.verdict);
+        if !matches!(reply.code, Code::Unavailable) {
             return;
         }
         yield_now();
@@ -29,7 +35,7 @@ fn leave<J: Naming, R: Wait + Drop, W: Wait>(rt: &W, desk: &LiveDesk<J, R>, pass
 }
 
 impl<J: Naming + Send, R: Wait + Drop> SharedDesk for LiveDesk<J, R> {
-    type Pass = Pass<J>;
+    type Pass = LinkPass<J>;
 
     type Worker = DeskWorker<J>;
 
@@ -41,7 +47,7 @@ impl<J: Naming + Send, R: Wait + Drop> SharedDesk for LiveDesk<J, R> {
         alloc: Global,
         link: &mut L,
         ports: &mut P,
-        pass: &mut Pass<J>,
+        pass: &mut LinkPass<J>,
         clock: &mut K,
     ) {
         let desk = ServedDesk::new(self);
@@ -63,11 +69,11 @@ impl<J: Naming + Send, R: Wait + Drop> SharedDesk for LiveDesk<J, R> {
     }
 
     // The published list has of each caller just what its calls made.
-    fn close<W: Wait>(self, rt: &W, passes: Vec<Option<Pass<J>>>) {
+    fn close<W: Wait>(self, rt: &W, passes: Vec<Option<LinkPass<J>>>) {
         let mut closed = self.finish();
         for place in passes {
-            if let Some(mut pass) = place {
-                closed.agree(rt, &mut pass);
+            if let Some(mut link) = place {
+                closed.agree(rt, &mut link.pass);
             }
         }
     }

@@ -1,11 +1,13 @@
 //! A switch that serves, from its opening to its end.
-ghost use Rattle.std.specs.Prelude.{◌≡◌, ◌≤◌};
+ghost use Rattle.std.specs.Prelude.{◌≡◌, ◌<◌, ◌≤◌};
+ghost use Rattle.counter_bank.specs.Account.{most_slots};
 ghost use Rattle.live_desk.specs.Opening.{AreParts};
 ghost use Rattle.sw_edge.specs.Counts.{HasCause, StaysUnless};
 
 use crate::clock::LentClock;
 use crate::ending::ServeEnd;
 use crate::hall::Hall;
+use crate::link_pass::with_verdicts;
 use crate::shared_desk::SharedDesk;
 use crate::sharing::Shared;
 use crate::threads::serve_net;
@@ -106,6 +108,11 @@ fn serve_desk<J: Naming + Send + Sync, T: Threads + Wait + Sync, N: Net + Drop, 
     else {
         return (net, ServeEnd::Memory);
     };
+    let Ok(passes) = with_verdicts(alloc, passes) else {
+        drop(desk);
+        drop(workers);
+        return (net, ServeEnd::Memory);
+    };
     serve_at::<LiveDesk<J, &T>, T, N, K>(rt, alloc, desk, passes, workers, net, clock)
 }
 
@@ -117,6 +124,7 @@ fn listen_and_serve<T: Threads + Wait + Sync, N: Net + Drop, K: Clock + Send>(
     net: N,
     clock: &mut K,
 ) -> (N, ServeEnd)
+    requires slots { (0 < serving.start.slots) × (serving.start.slots ≤ most_slots) }
     ensures end { HasCause (N.ends net) (N.ends result.0) (result.1 ≡ ServeEnd.Ended) }
     ensures no_end { StaysUnless (N.ends net) (N.ends result.0) (result.1 ≡ ServeEnd.Ended) }
     ensures failed { HasCause (N.faults net) (N.faults result.0) (result.1 ≡ ServeEnd.Fault) }
@@ -145,6 +153,9 @@ pub fn serve<T: Threads + Wait + Sync, N: Net + Drop, K: Clock + Send>(
     net: &mut N,
     clock: &mut K,
 ) -> ServeEnd
+    // The counters have 1 to 1,048,576 slots.
+    requires slots { (0 < serving.start.slots) × (serving.start.slots ≤ most_slots) }
+
     // The net ended in this run, and with any other answer it did not.
     ensures end { HasCause (N.ends net.old) (N.ends net.new) (result ≡ ServeEnd.Ended) }
     ensures no_end { StaysUnless (N.ends net.old) (N.ends net.new) (result ≡ ServeEnd.Ended) }
@@ -160,6 +171,7 @@ pub fn serve<T: Threads + Wait + Sync, N: Net + Drop, K: Clock + Send>(
         net,
         (rt, alloc, serving, clock),
         |net, (rt, alloc, serving, clock)| -> (N, ServeEnd)
+            requires slots { (0 < serving.start.slots) × (serving.start.slots ≤ most_slots) }
             ensures end { HasCause (N.ends net) (N.ends result.0) (result.1 ≡ ServeEnd.Ended) }
             ensures no_end { StaysUnless (N.ends net) (N.ends result.0) (result.1 ≡ ServeEnd.Ended) }
             ensures failed { HasCause (N.faults net) (N.faults result.0) (result.1 ≡ ServeEnd.Fault) }

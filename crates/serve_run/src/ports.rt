@@ -6,15 +6,14 @@ ghost use Rattle.sw_edge.specs.Told.{Appends, AppendsPrefix, IsAtEnd, Keeps};
 
 use crate::ports_end::PortsEnd;
 use list_types::NoMemory;
-use live_desk::{DeskWorker, LiveDesk, Naming};
+use live_desk::{DeskWorker, Handed, LiveDesk, Naming};
 use pkt_worker::Verdict;
 use std::alloc::Global;
 use std::sync::Wait;
 use sw_edge::{Clock, MAX_PACKET, Ports, Sent, Stop, Taken};
 
-// Puts what a verdict makes leave, if anything does.
-fn put_output<P: Ports>(ports: &mut P, verdict: &Verdict) -> Sent
-    requires few { length verdict.now.outputs ≤ 1 }
+// Puts what a verdict makes leave, one packet after another, up to the first that fails.
+fn put_outputs<P: Ports>(ports: &mut P, verdict: &Verdict) -> Sent
     ensures all { result ≡ Sent.All → Appends (P.sent ports.old) (P.sent ports.new) (leaving verdict.now) }
     ensures some { AppendsPrefix (P.sent ports.old) (P.sent ports.new) (leaving verdict.now) }
     ensures left { Keeps (P.left ports.old) (P.left ports.new) }
@@ -23,14 +22,37 @@ fn put_output<P: Ports>(ports: &mut P, verdict: &Verdict) -> Sent
     ensures quiets { P.quiets ports.new ≡ P.quiets ports.old }
     ensures ends { P.ends ports.new ≡ P.ends ports.old }
 {
-    match verdict.output(0) {
-        Some((port, bytes)) => ports.put(port, bytes),
-        None => Sent::All,
+    for place in 0..verdict.output_count() {
+        let Some((port, bytes)) = verdict.output(place) else {
+            return Sent::All;
+        };
+        match ports.put(port, bytes) {
+            Sent::All => {}
+            Sent::Failed => return Sent::Failed,
+        }
+    }
+    Sent::All
+}
+
+// Hands on what a packet gives to controllers. All threads share the clock, so it is asked only where there is something.
+fn hand_on<K: Clock, J: Naming, R: Wait + Drop>(
+    alloc: Global,
+    desk: &LiveDesk<J, R>,
+    receiver: Option<u16>,
+    verdict: &Verdict,
+    clock: &mut K,
+) {
+    let handed = Handed::of(alloc, verdict);
+    let is_nothing = handed.is_nothing();
+    drop(handed);
+    if !is_nothing {
+        desk.deliver(receiver, verdict, clock.now());
     }
 }
 
 // The next packet, if there is one: it is run, what leaves is put, and the rest is handed to the desk. The answer is the end, if it came.
 fn carry_next<P: Ports, S: Stop, K: Clock, J: Naming, R: Wait + Drop>(
+    alloc: Global,
     ports: &mut P,
     stop: &mut S,
     desk: &LiveDesk<J, R>,
@@ -54,8 +76,8 @@ fn carry_next<P: Ports, S: Stop, K: Clock, J: Naming, R: Wait + Drop>(
     match ports.take(buffer) {
         Taken::Packet { port, len } => {
             desk.run(worker, port, &buffer[..len], verdict);
-            let sent = put_output(ports, verdict);
-            desk.deliver(worker.receiver(), verdict, clock.now());
+            let sent = put_outputs(ports, verdict);
+            hand_on(alloc, desk, worker.receiver(), verdict, clock);
             match sent {
                 Sent::All => None,
                 Sent::Failed => Some(PortsEnd::Fault),
@@ -87,6 +109,7 @@ fn open_room(alloc: Global) -> Result<Room, NoMemory>
 // Packets, one after another, until an end comes.
 fn carry_all<P: Ports, S: Stop, K: Clock, J: Naming, R: Wait + Drop, W: Wait>(
     rt: &W,
+    alloc: Global,
     ports: &mut P,
     stop: &mut S,
     desk: &LiveDesk<J, R>,
@@ -107,7 +130,7 @@ fn carry_all<P: Ports, S: Stop, K: Clock, J: Naming, R: Wait + Drop, W: Wait>(
     ensures memory { result ≢ PortsEnd.Memory }
 {
     for _ in rt.forever() {
-        match carry_next(ports, stop, desk, worker, clock, buffer, verdict) {
+        match carry_next(alloc, ports, stop, desk, worker, clock, buffer, verdict) {
             Some(end) => return end,
             None => {}
         }
@@ -146,6 +169,7 @@ pub fn serve_ports<P: Ports, S: Stop, K: Clock, J: Naming, R: Wait + Drop, W: Wa
     } = room;
     carry_all(
         rt,
+        alloc,
         ports,
         stop,
         desk,

@@ -3,7 +3,8 @@ ghost use Rattle.std.specs.Prelude.{⊤};
 ghost use Rattle.live_desk.specs.Mailing.{IsAsked};
 ghost use Rattle.live_desk.specs.Passing.{IsGiven};
 
-use live_desk::{LiveDesk, Naming, Pass};
+use crate::link_pass::LinkPass;
+use live_desk::{LiveDesk, Naming};
 use p4_types::calls::{Call, Reply};
 use p4rt_service::{Desk, Next};
 use std::alloc::Global;
@@ -23,25 +24,25 @@ impl<'a, J: Naming, R: Wait + Drop> ServedDesk<'a, J, R> {
 }
 
 impl<'a, J: Naming, R: Wait + Drop> Desk for ServedDesk<'a, J, R> {
-    type Pass = Pass<J>;
+    type Pass = LinkPass<J>;
 
-    ghost lane_of = { λ pass. pass.lane };
+    ghost lane_of = { λ link. link.pass.lane };
 
-    ghost is_of = { λ desk pass. ⊤ };
+    ghost is_of = { λ desk link. ⊤ };
 
-    ghost answers = { λ old call reply new. IsAsked J.start.cpu call reply old new };
+    ghost answers = { λ old call reply new. IsAsked J.start.cpu call reply old.pass new.pass };
 
-    ghost gives = { λ old now next new. IsGiven old.waiting next old new };
+    ghost gives = { λ old now next new. IsGiven old.pass.waiting next old.pass new.pass };
 
-    fn lane(&self, pass: &Pass<J>) -> u16 {
-        pass.lane()
+    fn lane(&self, link: &LinkPass<J>) -> u16 {
+        link.pass.lane()
     }
 
-    fn ask(&self, _alloc: Global, pass: &mut Pass<J>, call: &Call) -> Reply {
-        self.desk.ask(pass, call)
+    fn ask(&self, _alloc: Global, link: &mut LinkPass<J>, call: &Call) -> Reply {
+        self.desk.ask(&mut link.pass, call, &mut link.verdict)
     }
 
-    fn next(&self, _alloc: Global, pass: &mut Pass<J>, now: u64) -> Option<Next> {
-        self.desk.next(pass, now)
+    fn next(&self, _alloc: Global, link: &mut LinkPass<J>, now: u64) -> Option<Next> {
+        self.desk.next(&mut link.pass, now)
     }
 }

@@ -11,8 +11,8 @@ use Rattle.packet_spec.proofs.Hits.{hits_are_there}
 use Rattle.packet_spec.specs.Laws.{IsThere}
 use Rattle.packet_spec.specs.Meaning.{Verdict, meaning}
 use Rattle.plane_spec.proofs.SoundPlanes.{planes_stay_sound}
+use Rattle.plane_spec.proofs.Steady.{slots_are}
 use Rattle.plane_spec.specs.Config.{cells_in}
-use Rattle.plane_spec.specs.Entries.{slot_limit}
 use Rattle.plane_spec.specs.Legal.{Legal}
 use Rattle.plane_spec.specs.PlaneLaws.{numbers_from, slots_of, IsSoundControl}
 use Rattle.plane_spec.specs.Planes.{ControlState, Plane, opened}
@@ -52,35 +52,36 @@ of_numbers P (suc count) first x all le lt =
     (λ more. of_numbers P count (first + 1) x (All-tail P first (numbers_from count (first + 1)) all) more (omega (arith, lt)))
 
 -- the entry's slot, where it has one
-entry_within : (table seq : ℕ) (slot own : Option ℕ) → own ≡ slot → IfSome own (λ x. x < slot_limit) → IsWithin slot_limit (marks.Entry table seq slot)
-entry_within table seq None own is below = tt
-entry_within table seq (Some x) own is below = subst (λ (o : Option ℕ). IfSome o (λ y. y < slot_limit)) is below
+entry_within : (most table seq : ℕ) (slot own : Option ℕ) → own ≡ slot → IfSome own (λ x. x < most) → IsWithin most (marks.Entry table seq slot)
+entry_within most table seq None own is below = tt
+entry_within most table seq (Some x) own is below = subst (λ (o : Option ℕ). IfSome o (λ y. y < most)) is below
 
 -- what is there has drawn a slot below the limit, if it has one
-mark_within : (plane : Plane) → All (λ slot. slot < slot_limit) (slots_of (Some plane)) → (mark : HitMark) → IsThere plane mark → IsWithin slot_limit mark
-mark_within plane all (marks.Entry table seq slot) there =
-    let entries = of_entries (λ x. x < slot_limit) plane.entries (All-left (λ x. x < slot_limit) (filter_map (λ (e : Entry). e.slot) plane.entries) (numbers_from (cells_in plane.config) plane.cells) all) in
-    entry_within table seq slot there.0.slot there.4 (All-contains (λ (e : Entry). IfSome e.slot (λ x. x < slot_limit)) plane.entries there.0 entries there.1)
-mark_within plane all (marks.Cell slot) there =
-    of_numbers (λ x. x < slot_limit) (cells_in plane.config) plane.cells slot
-    (All-right (λ x. x < slot_limit) (filter_map (λ (e : Entry). e.slot) plane.entries) (numbers_from (cells_in plane.config) plane.cells) all) there.0 there.1
+mark_within : (most : ℕ) (plane : Plane) → All (λ slot. slot < most) (slots_of (Some plane)) → (mark : HitMark) → IsThere plane mark → IsWithin most mark
+mark_within most plane all (marks.Entry table seq slot) there =
+    let entries = of_entries (λ x. x < most) plane.entries (All-left (λ x. x < most) (filter_map (λ (e : Entry). e.slot) plane.entries) (numbers_from (cells_in plane.config) plane.cells) all) in
+    entry_within most table seq slot there.0.slot there.4 (All-contains (λ (e : Entry). IfSome e.slot (λ x. x < most)) plane.entries there.0 entries there.1)
+mark_within most plane all (marks.Cell slot) there =
+    of_numbers (λ x. x < most) (cells_in plane.config) plane.cells slot
+    (All-right (λ x. x < most) (filter_map (λ (e : Entry). e.slot) plane.entries) (numbers_from (cells_in plane.config) plane.cells) all) there.0 there.1
 
-below_limit : (c : ControlState) → IsSoundControl c → All (λ slot. slot < slot_limit) (slots_of c.active)
+below_limit : (c : ControlState) → IsSoundControl c → All (λ slot. slot < c.slots) (slots_of c.active)
 below_limit c sound =
     let limit = sound.slot_limit in
-    All-weaker (λ slot. slot < c.next_slot) (λ slot. slot < slot_limit) (λ slot lt. omega (arith, lt, limit)) (slots_of c.active) (All-left (λ slot. slot < c.next_slot) (slots_of c.active) (slots_of c.staged) sound.slots)
+    All-weaker (λ slot. slot < c.next_slot) (λ slot. slot < c.slots) (λ slot lt. omega (arith, lt, limit)) (slots_of c.active) (All-left (λ slot. slot < c.next_slot) (slots_of c.active) (slots_of c.staged) sound.slots)
 
-all_within : (o : Option Plane) (cpu port : ℕ) (packet : List ℕ) → All (λ slot. slot < slot_limit) (slots_of o) → All (IsWithin slot_limit) (meaning o cpu port packet).hits
+all_within : (most : ℕ) (o : Option Plane) (cpu port : ℕ) (packet : List ℕ) → All (λ slot. slot < most) (slots_of o) → All (IsWithin most) (meaning o cpu port packet).hits
 unfolding meaning
-all_within None cpu port packet all = All-nil (IsWithin slot_limit)
-all_within (Some plane) cpu port packet all = All-weaker (IsThere plane) (IsWithin slot_limit) (mark_within plane all) (meaning (Some plane) cpu port packet).hits (hits_are_there plane cpu port packet)
+all_within most None cpu port packet all = All-nil (IsWithin most)
+all_within most (Some plane) cpu port packet all = All-weaker (IsThere plane) (IsWithin most) (mark_within most plane all) (meaning (Some plane) cpu port packet).hits (hits_are_there plane cpu port packet)
 
 -- in a state that legal events lead to, the slots of what a packet hits are below the limit
-pub hits_within : (told : Beginning) → Legal (opened told.start) told.events → (port : ℕ) (packet : List ℕ) → All (IsWithin slot_limit) (verdict_in (state_after told) port packet).hits
+pub hits_within : (told : Beginning) → Legal (opened told.start) told.events → (port : ℕ) (packet : List ℕ) → All (IsWithin told.start.slots) (verdict_in (state_after told) port packet).hits
 hits_within told legal port packet =
     let c : ControlState = state_after told in
-    all_within c.active c.cpu port packet (below_limit c (planes_stay_sound told.start told.events legal))
+    all_within told.start.slots c.active c.cpu port packet
+    (subst (λ (most : ℕ). All (λ slot. slot < most) (slots_of c.active)) (slots_are told.start told.events) (below_limit c (planes_stay_sound told.start told.events legal)))
 
 -- the same of what is that verdict
-pub are_within : (told : Beginning) (v : Verdict) (port : ℕ) (packet : List ℕ) → Legal (opened told.start) told.events → v ≡ verdict_in (state_after told) port packet → All (IsWithin slot_limit) v.hits
-are_within told v port packet legal same = subst (λ (w : Verdict). All (IsWithin slot_limit) w.hits) (sym same) (hits_within told legal port packet)
+pub are_within : (told : Beginning) (v : Verdict) (port : ℕ) (packet : List ℕ) → Legal (opened told.start) told.events → v ≡ verdict_in (state_after told) port packet → All (IsWithin told.start.slots) v.hits
+are_within told v port packet legal same = subst (λ (w : Verdict). All (IsWithin told.start.slots) w.hits) (sym same) (hits_within told legal port packet)

@@ -31,7 +31,7 @@ sight_in (places.At stay) = record { told = stay.view.told; refusals = stay.view
 
 -- the same of one that may be nowhere, where it knows nothing
 abbrev pub sight_of : Option Place → Sight
-sight_of None = record { told = record { list = no_list; start = record { device = 0; cpu = 0; rows = 0; bridge = false }; events = [] }; refusals = 0 }
+sight_of None = record { told = record { list = no_list; start = record { device = 0; cpu = 0; rows = 0; slots = 0; bridge = false }; events = [] }; refusals = 0 }
 sight_of (Some place) = sight_in place
 
 -- a worker that has run no packet yet

@@ -1,6 +1,5 @@
 //! The snapshots that a worker enters, and what it saw last.
 ghost use Rattle.std.specs.Prelude.{◌≡◌, ◌⊎◌, ◌≤◌, All, IfOk, OnOk, OnErr, None};
-ghost use Rattle.plane_spec.specs.Entries.{slot_limit};
 ghost use Rattle.pub_snap.specs.Beginnings.{Begins};
 ghost use Rattle.pub_snap.specs.Snapshots.{steps_in};
 ghost use Rattle.snap_worker.specs.Counting.{IsWithin};
@@ -53,7 +52,7 @@ struct Seen {
 #[tactic(auto, using(crate::proofs::Bounds::are_within))]
 fn run_on(view: &View, port: u16, packet: &[u8], scratch: &mut Scratch, out: &mut Verdict) -> Seen
     ensures verdict { out.new ≡ verdict_in (state_after view.now.told) port packet.now }
-    ensures slots { All (IsWithin slot_limit) out.new.hits }
+    ensures slots { All (IsWithin view.now.told.start.slots) out.new.hits }
     ensures steps { result.steps ≡ steps_in view.now.told.events }
     ensures receiver { result.receiver ≡ receiver (state_after view.now.told) }
 {
@@ -77,7 +76,7 @@ fn look(
     ensures begins { OnOk result.1 (Begins (sight_in place).told (sight_in result.0).told) }
     ensures refusals { OnOk result.1 ((sight_in result.0).refusals ≡ (sight_in place).refusals) }
     ensures verdict { OnOk result.1 (out.new ≡ verdict_in (state_after (sight_in result.0).told) port packet.now) }
-    ensures slots { OnOk result.1 (All (IsWithin slot_limit) out.new.hits) }
+    ensures slots { OnOk result.1 (All (IsWithin (sight_in result.0).told.start.slots) out.new.hits) }
     ensures steps { IfOk result.1 (λ seen. seen.steps ≡ steps_in (sight_in result.0).told.events) }
     ensures receiver { IfOk result.1 (λ seen. seen.receiver ≡ receiver (state_after (sight_in result.0).told)) }
     ensures refused { OnErr result.1 (sight_in result.0 ≡ record { told = (sight_in place).told; refusals = one_more (sight_in place).refusals }) }
@@ -172,7 +171,7 @@ impl Watch {
         ensures begins { OnOk result (Begins self.old.told self.new.told) }
         ensures refusals { OnOk result (self.new.refusals ≡ self.old.refusals) }
         ensures verdict { OnOk result (out.new ≡ verdict_in (state_after self.new.told) port packet.now) }
-        ensures slots { OnOk result (All (IsWithin slot_limit) out.new.hits) }
+        ensures slots { OnOk result (All (IsWithin self.new.told.start.slots) out.new.hits) }
         ensures steps { OnOk result (self.new.steps ≡ steps_in self.new.told.events) }
         ensures later { OnOk result (self.old.steps ≤ self.new.steps) }
         ensures receiver { OnOk result (self.new.receiver ≡ receiver (state_after self.new.told)) }

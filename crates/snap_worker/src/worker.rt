@@ -2,7 +2,6 @@
 ghost use Rattle.std.specs.Prelude.{◌≡◌, ◌⊎◌, ◌<◌, ◌≤◌, length, IfOk, OnOk, OnErr};
 ghost use Rattle.counter_bank.specs.Account.{NotesAt};
 ghost use Rattle.counter_bank.specs.Figures.{figures_of, AtMost};
-ghost use Rattle.plane_spec.specs.Entries.{slot_limit};
 ghost use Rattle.pub_snap.specs.Beginnings.{Begins};
 ghost use Rattle.pub_snap.specs.Snapshots.{steps_in};
 ghost use Rattle.snap_worker.specs.Counting.{after_packet};
@@ -141,7 +140,7 @@ impl Worker {
         out: &mut Verdict,
     ) -> Result<(), NoEntry>
         requires bank { self.old.seat.bank ≡ bank.now.id }
-        requires slots { slot_limit ≤ bank.now.slots }
+        requires slots { self.old.told.start.slots ≤ bank.now.slots }
         requires packet { length packet.now ≤ 9216 }
         ensures begins { OnOk result (Begins self.old.told self.new.told) }
         ensures verdict { OnOk result (out.new ≡ verdict_in (state_after self.new.told) port packet.now) }

@@ -3,12 +3,14 @@ ghost use Rattle.std.specs.Prelude.{◌≡◌, ◌+◌, ◌<◌, ◌≤◌};
 
 use crate::moments::nanoseconds;
 use counter_bank::{Bank, Seat, close_with, open};
-use p4_types::events::SLOT_LIMIT;
 use std::io::{self, Error, ErrorKind};
 use std::thread::{Threads, join};
 use std::time::Clock;
 
 const HITS: u32 = 4_000_000;
+
+// As many slots as a switch has.
+const SLOTS: u32 = 1_048_576;
 
 fn count(bank: &Bank, seat: Seat, slot: u32) -> Seat
     requires seat { seat.bank ≡ bank.now.id }
@@ -114,7 +116,7 @@ pub fn measure<R: Threads + Sync + Clock + AllocGlobal>(
 ) -> io::Result<Measured>
     requires { apart ≤ 262144 }
 {
-    let Ok((bank, seat)) = open(rt.alloc(), SLOT_LIMIT) else {
+    let Ok((bank, seat)) = open(rt.alloc(), SLOTS) else {
         return Err(Error::from(ErrorKind::OutOfMemory));
     };
     let before = nanoseconds(rt);

@@ -73,6 +73,8 @@ fn put(alloc: Global, plane: &mut Plane, change: EntryChange, number: u32) -> bo
     let room = Room {
         rows: 1,
         slots: 1,
+        next_slot: 0,
+        next_stamp: 0,
         numbers: u64::MAX - 1 - u64::from(number),
     };
     plane

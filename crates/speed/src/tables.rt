@@ -108,6 +108,8 @@ fn put(
     let room = Room {
         rows: 1,
         slots: 1,
+        next_slot: 0,
+        next_stamp: 0,
         numbers: u64::MAX - 1 - u64::from(number),
     };
     store.insert(alloc, table, change, room).is_ok()
@@ -190,6 +192,8 @@ fn put_and_undo(
     let room = Room {
         rows: 1,
         slots: 1,
+        next_slot: 0,
+        next_stamp: 0,
         numbers: u64::MAX - 1 - u64::from(number),
     };
     let made = store.insert(alloc, table, change, room).is_ok();

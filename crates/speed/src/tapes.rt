@@ -12,6 +12,7 @@ pub const START: Start = Start {
     device: 1,
     cpu: 255,
     rows: 16_384,
+    slots: 1_048_576,
     bridge: false,
 };
 

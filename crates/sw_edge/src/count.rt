@@ -1,7 +1,7 @@
 // Counts, and lists of the calls that are to go another way.
-ghost use Rattle.std.specs.Prelude.{◌≡◌, ◌≤◌};
+ghost use Rattle.std.specs.Prelude.{◌≡◌, ◌+◌, ◌≤◌, min};
 ghost use Rattle.sw_edge.specs.Counts.{one_more};
-ghost use Rattle.sw_edge.specs.Memory.{Picked, picks, is_next, after_call};
+ghost use Rattle.sw_edge.specs.Memory.{Picked, picks, is_next, after_call, after_calls, unpicked};
 
 use std::marker::Model;
 
@@ -41,5 +41,20 @@ impl Picks {
         let picked = self.indices.contains(&self.calls);
         raise(&mut self.calls);
         picked
+    }
+
+    // Counts calls until one is picked, at most so many, and says how many came before that one.
+    #[tactic(auto, using(crate::proofs::PieceLaws::calls))]
+    pub fn call_until(&mut self, most: usize) -> usize
+        ensures before { result ≡ unpicked most self.old }
+        ensures within { result ≤ most }
+        ensures counted { self.new ≡ after_calls (min (result + 1) most) self.old }
+    {
+        for before in 0..most {
+            if self.call() {
+                return before;
+            }
+        }
+        most
     }
 }

@@ -83,6 +83,14 @@ impl Store {
         &self.bytes
     }
 
+    // How many bytes there is still room for.
+    pub fn left(&self) -> usize
+        ensures is { result ≡ self.now.room - length self.now.sent }
+        ensures all { length self.now.sent + result ≡ self.now.room }
+    {
+        self.room - self.bytes.len()
+    }
+
     // Adds the bytes, or as many as there is room for.
     pub fn add(&mut self, bytes: &[u8]) -> Sent
         ensures added { self.new.sent ≡ self.old.sent ++ take (self.old.room - length self.old.sent) bytes.now }

@@ -1,8 +1,8 @@
 // A source and a sink in memory.
-ghost use Rattle.std.specs.Prelude.{◌≡◌, ◌+◌, ◌<◌, ◌-◌, ◌^◌, ◌++◌, ◌↔◌, ◌⊎◌, ℕ, [], Some, false, length, take, IfOk, IsTrue};
+ghost use Rattle.std.specs.Prelude.{◌≡◌, ◌+◌, ◌<◌, ◌-◌, ◌*◌, ◌^◌, ◌++◌, ◌↔◌, ◌⊎◌, ℕ, [], Some, length, min, take, IfOk, IsTrue};
 ghost use Rattle.sw_edge.specs.Answers.{Fits, Takes, Sends};
 ghost use Rattle.sw_edge.specs.Counts.{HasCause, StaysUnless, one_more_if};
-ghost use Rattle.sw_edge.specs.Memory.{HeldSource, HeldSink, picks, is_next, after_call, next_count};
+ghost use Rattle.sw_edge.specs.Memory.{HeldSource, HeldSink, picks, is_next, after_call, after_calls, unpicked, fitting, next_count};
 
 use crate::count::{Picks, raise};
 use crate::held::{Pieces, Store};
@@ -90,8 +90,12 @@ impl Source for MemorySource {
     }
 }
 
-/// Room in memory that is written to. Writes whose index, from 0, is in a list fail and write nothing;
-/// a write past the room fails and fills the room.
+// The most bytes of a piece of a write.
+const PIECE: usize = 64;
+
+/// Room in memory that is written to. A write makes pieces of at most 64 bytes, none where it has no byte. Pieces whose
+/// index, from 0 over all writes, is in a list fail, and a write with one of these adds the bytes before it alone. A write past
+/// the room fails and fills the room. No piece behind the one that failed is counted.
 #[derive(Drop)]
 pub struct MemorySink {
     written: Store,
@@ -103,6 +107,17 @@ impl Model for MemorySink {
     ghost Value = { HeldSink };
 
     ghost view = { λ s. record { written = s.written; failing = s.failing; faults = s.faults } };
+}
+
+// The bytes of so many pieces, or all of the bytes.
+fn first_pieces(bytes: &[u8], pieces: usize) -> &[u8]
+    ensures { result.now ≡ take (64 * pieces) bytes.now }
+{
+    if pieces <= bytes.len() / PIECE {
+        &bytes[..PIECE * pieces]
+    } else {
+        bytes
+    }
 }
 
 impl MemorySink {
@@ -132,26 +147,31 @@ impl Sink for MemorySink {
 
     ghost faults = { λ s. s.faults };
 
+    #[tactic(auto, using(crate::proofs::PieceLaws::pieces))]
     fn write(&mut self, bytes: &[u8]) -> Sent
         ensures sends { Sends (Some self.old.written.sent) (Some self.new.written.sent) result bytes.now }
         ensures failed { HasCause self.old.faults self.new.faults (result ≡ Sent.Failed) }
         ensures no_fault { StaysUnless self.old.faults self.new.faults (result ≡ Sent.Failed) }
 
-        // It fails where it is told to and where there is no room, and nowhere else.
-        ensures picked { IsTrue (is_next self.old.failing) → (result ≡ Sent.Failed) × (self.new.written ≡ self.old.written) }
-        ensures filled { is_next self.old.failing ≡ false → self.new.written.sent ≡ self.old.written.sent ++ take (self.old.written.room - length self.old.written.sent) bytes.now }
-        ensures full { (result ≡ Sent.Failed) ↔ (IsTrue (is_next self.old.failing) ⊎ (self.old.written.room < length self.old.written.sent + length bytes.now)) }
-        ensures counted { self.new.failing ≡ after_call self.old.failing }
+        // Of the pieces up to the first that does not fit, those before the first that is picked are added.
+        ensures added { let left = self.old.written.room - length self.old.written.sent in let tried = fitting (length bytes.now) left in self.new.written.sent ≡ self.old.written.sent ++ take left (take (64 * unpicked tried self.old.failing) bytes.now) }
+
+        // It fails where one of them is picked and where there is no room, and nowhere else.
+        ensures full { let tried = fitting (length bytes.now) (self.old.written.room - length self.old.written.sent) in (result ≡ Sent.Failed) ↔ ((unpicked tried self.old.failing < tried) ⊎ (self.old.written.room < length self.old.written.sent + length bytes.now)) }
+        ensures counted { let tried = fitting (length bytes.now) (self.old.written.room - length self.old.written.sent) in self.new.failing ≡ after_calls (min (unpicked tried self.old.failing + 1) tried) self.old.failing }
         ensures room { self.new.written.room ≡ self.old.written.room }
     {
-        if self.failing.call() {
-            raise(&mut self.faults);
-            return Sent::Failed;
+        let tried = bytes
+            .len()
+            .div_ceil(PIECE)
+            .min(self.written.left() / PIECE + 1);
+        let whole = self.failing.call_until(tried);
+        match self.written.add(first_pieces(bytes, whole)) {
+            Sent::All if whole == tried => Sent::All,
+            _ => {
+                raise(&mut self.faults);
+                Sent::Failed
+            }
         }
-        let answer = self.written.add(bytes);
-        if let Sent::Failed = answer {
-            raise(&mut self.faults);
-        }
-        answer
     }
 }

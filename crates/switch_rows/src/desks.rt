@@ -3,12 +3,12 @@
 ghost use Rattle.std.specs.Prelude.{◌≤◌, length};
 
 use crate::telling::LastRun;
-use live_desk::{ClosedDesk, DeskWorker, LiveDesk, Naming, Pass};
+use live_desk::{ClosedDesk, DeskWorker, LiveDesk, Naming};
 use mail_room::Next;
 use p4_types::calls::{Call, Reply};
 use p4rt_service::Desk;
 use pkt_worker::Verdict;
-use serve_run::{PortsEnd, ServedDesk, serve_ports};
+use serve_run::{LinkPass, PortsEnd, ServedDesk, serve_ports};
 use std::alloc::Global;
 use std::sync::Wait;
 use sw_edge::{Clock, Ports, Stop};
@@ -73,9 +73,9 @@ pub trait RowDesk {
     fn close(self) -> Self::Closed;
 }
 
-impl<J: Naming> RowPass for Pass<J> {
+impl<J: Naming> RowPass for LinkPass<J> {
     fn known(&self) -> u64 {
-        self.told().len()
+        self.pass.told().len()
     }
 }
 
@@ -88,9 +88,9 @@ impl<J: Naming> RowWorker for DeskWorker<J> {
     }
 }
 
-impl<J: Naming> RowEnd<Pass<J>> for ClosedDesk<J> {
-    fn compare<W: Wait>(&mut self, rt: &W, pass: &mut Pass<J>) {
-        self.agree(rt, pass);
+impl<J: Naming> RowEnd<LinkPass<J>> for ClosedDesk<J> {
+    fn compare<W: Wait>(&mut self, rt: &W, pass: &mut LinkPass<J>) {
+        self.agree(rt, &mut pass.pass);
     }
 
     fn steps(&self) -> u64 {
@@ -99,27 +99,27 @@ impl<J: Naming> RowEnd<Pass<J>> for ClosedDesk<J> {
 }
 
 impl<J: Naming, R: Wait + Drop> RowDesk for LiveDesk<J, R> {
-    type Pass = Pass<J>;
+    type Pass = LinkPass<J>;
 
     type Worker = DeskWorker<J>;
 
     type Closed = ClosedDesk<J>;
 
-    fn call(&self, alloc: Global, pass: &mut Pass<J>, call: &Call) -> Reply {
+    fn call(&self, alloc: Global, pass: &mut LinkPass<J>, call: &Call) -> Reply {
         ServedDesk::new(self).ask(alloc, pass, call)
     }
 
-    fn give(&self, alloc: Global, pass: &mut Pass<J>, now: u64) -> Option<Next> {
+    fn give(&self, alloc: Global, pass: &mut LinkPass<J>, now: u64) -> Option<Next> {
         ServedDesk::new(self).next(alloc, pass, now)
     }
 
-    fn teach(&self, passes: &mut [Pass<J>], from: usize, to: usize) -> Option<()> {
-        let news = self.tell(passes.get(from)?);
+    fn teach(&self, passes: &mut [LinkPass<J>], from: usize, to: usize) -> Option<()> {
+        let news = self.tell(&passes.get(from)?.pass);
         let Some(pass) = passes.get_mut(to) else {
             drop(news);
             return None;
         };
-        self.learn(pass, &news);
+        self.learn(&mut pass.pass, &news);
         drop(news);
         Some(())
     }

@@ -18,7 +18,7 @@
 //!
 //! METHOD is `write`, `read`, `set`, `get`, `stream` or `capabilities`, HEX is bytes, of which `.` has none, and NOW is in nanoseconds.
 //! In the end the desk is closed and each pass is compared with it, and the number of steps is told.
-ghost use Rattle.std.specs.Prelude.{◌≡◌, ◌≤◌};
+ghost use Rattle.std.specs.Prelude.{◌≡◌, ◌≤◌, IfOk};
 ghost use Rattle.live_desk.specs.Opening.{AreParts};
 
 use crate::desks::RowDesk;
@@ -29,6 +29,7 @@ use p4_types::events::Start;
 use pkt_worker::Verdict;
 use pub_snap::Publisher;
 use row_lines::{NoAnswer, say};
+use serve_run::with_verdicts;
 use std::alloc::Global;
 use std::marker::Brand;
 use std::sync::Wait;
@@ -76,6 +77,11 @@ fn play<'a, J: Naming, T: Wait>(
     else {
         return Err(NoAnswer);
     };
+    let Ok(passes) = with_verdicts(alloc, passes) else {
+        drop(desk);
+        drop(workers);
+        return Err(NoAnswer);
+    };
     answer_at(rt, alloc, desk, passes, workers, verdicts, steps, told)
 }
 
@@ -89,7 +95,8 @@ fn open_and_play<T: Wait>(
     steps: &[&str],
     told: &mut String,
 ) -> Result<(), NoAnswer>
-    requires { workers ≤ 16 }
+    requires workers { workers ≤ 16 }
+    requires slots { start.slots ≡ 1048576 }
 {
     let Ok((publisher, parts)) = open_parts(rt, alloc, &start, workers) else {
         return Err(NoAnswer);
@@ -98,7 +105,9 @@ fn open_and_play<T: Wait>(
 }
 
 // With what a desk opens, and with how many workers.
-fn opening_of(words: &str) -> Result<(usize, Start), NoAnswer> {
+fn opening_of(words: &str) -> Result<(usize, Start), NoAnswer>
+    ensures { IfOk result (λ r. r.1.slots ≡ 1048576) }
+{
     let Some((workers, program)) = words.split_once(' ') else {
         return Err(NoAnswer);
     };
@@ -106,6 +115,7 @@ fn opening_of(words: &str) -> Result<(usize, Start), NoAnswer> {
         device: 1,
         cpu: 255,
         rows: 1_024,
+        slots: 1_048_576,
         bridge: program == "bridge",
     };
     Ok((workers.parse::<usize>()?, start))

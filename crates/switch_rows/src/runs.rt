@@ -4,6 +4,8 @@
 //! A row has words between blanks, a tape in hex that is read seven bytes at a time, and the failing reads and writes of the
 //! report. It is answered by the status, the lines of the report behind `> `, and the line behind `! `. Where the run was in
 //! lockstep and the desk gives another report, that is told too.
+ghost use Rattle.std.specs.Prelude.{◌≡◌};
+
 use crate::words::words_of;
 use list_types::ByteList;
 use p4_types::events::Start;
@@ -43,6 +45,7 @@ fn start_of(words: &[&str]) -> Result<Start, NoAnswer> {
         device: 1,
         cpu: 255,
         rows: 16_384,
+        slots: 1_048_576,
         bridge: false,
     };
     let mut option = "";
@@ -76,7 +79,9 @@ fn report_of<T: Threads + Wait + Sync>(
     alloc: Global,
     start: Start,
     tape: Tape,
-) -> Result<ByteList, NoAnswer> {
+) -> Result<ByteList, NoAnswer>
+    requires { start.slots ≡ 1048576 }
+{
     let given = replay_in_order(rt, alloc, start, tape.into_records(alloc)?)?;
     let text = report_text(alloc, &given);
     drop(given);
@@ -91,7 +96,10 @@ fn desk_agrees<T: Threads + Wait + Sync>(
     tape: &str,
     report: &[u8],
 ) -> Result<bool, NoAnswer> {
-    let start = start_of(words)?;
+    let start = Start {
+        slots: 1_048_576,
+        ..start_of(words)?
+    };
     let tape = tape_of(alloc, tape)?;
     if tape.brings_bytes() {
         drop(tape);

@@ -36,7 +36,7 @@ use Rattle.packet_out.specs.Entering.{packet_out_fields, fills, packet_bytes, un
 use Rattle.packet_out.specs.declared.rule.PacketRule.{PacketRule}
 use Rattle.packet_out.specs.declared.rule.PacketRule.TheVariants as rules
 use Rattle.switch_spec.specs.PacketsOut.{is_primary, entering_in, packet_result}
-use Rattle.switch_spec.specs.Answer.{Answer, plain, write_reply, write_refusal, write_unless, continued, all_or_nothing, batch, origin, has_failed, atomicity_of, is_atomic, unreadable, read_reply, arbitration_unless, packet_reply, unserved_answer, stream_answer, leave_of, answer_to, answer, called, EventsIgnoreFigures}
+use Rattle.switch_spec.specs.Answer.{arbitration_answer, Answer, plain, write_reply, write_refusal, write_unless, continued, all_or_nothing, batch, origin, has_failed, atomicity_of, is_atomic, unreadable, read_reply, arbitration_unless, packet_reply, unserved_answer, stream_answer, leave_of, answer_to, answer, called, EventsIgnoreFigures}
 use Rattle.switch_spec.specs.declared.calls.LaneCall.{LaneCall}
 use Rattle.switch_spec.specs.Counts.{Figures}
 use Rattle.plane_spec.specs.Config.{Event}
@@ -46,6 +46,8 @@ use Rattle.plane_spec.specs.Planes.{ControlState, Plane, target, primary, is_of_
 use Rattle.plane_spec.proofs.Steady.{change_steady, fold_closed, fold_next}
 use Rattle.switch_spec.specs.Reading.{entry_refusal_in, direct_refusal, entity_refusal, first_of, read_unless, read_in, read_result}
 use Rattle.switch_spec.specs.History.{is_unavailable, steps_of}
+use Rattle.p4v1_read.specs.RoleConfigs.{read_update}
+use Rattle.switch_spec.proofs.RoleConfigs.{update_served}
 use Rattle.switch_spec.proofs.Settings.{set_sound, get_sound}
 use Rattle.switch_spec.proofs.Sound.{IsSound, Available, plain_sound}
 
@@ -280,14 +282,14 @@ rule_available arbitration.A3 = refl
 rule_available arbitration.A4 = refl
 rule_available arbitration.A5 = refl
 
-arbitration_unless_sound : (o : Option ArbitrationRule) (c : ControlState) (lane k : ℕ) (update : MasterArbitrationUpdate) → (o ≡ None → cause c.roles lane update ≡ None)
-    → IsSound c (arbitration_unless o c lane k update)
+arbitration_unless_sound : (o : Option ArbitrationRule) (c : ControlState) (lane k : ℕ) (update : MasterArbitrationUpdate) → (o ≡ None → cause c.roles lane (read_update update) ≡ None)
+    → IsSound c (arbitration_unless o c lane k (read_update update))
 arbitration_unless_sound (Some rule) c lane k update is = plain_sound c (arbitration_code rule) [] (rule_available rule)
 arbitration_unless_sound None c lane k update is = record {
   available = refl;
   short_packet = tt;
   all_steps = refl;
-  legal = λ alive rest later. ((alive, record { update = update; asks = refl; no_cause = is refl }), later);
+  legal = λ alive rest later. ((alive, record { update = read_update update; served = update_served update; asks = refl; no_cause = is refl }), later);
   still_open = λ alive. alive;
   few_steps = omega arith;
   few_numbers = omega arith;
@@ -297,8 +299,8 @@ by_device : (b : Bool) (o : Option ArbitrationRule) → (if b then o else Some a
 by_device true o h = h
 by_device false o h = absurd (cc)
 
-arbitration_sound : (c : ControlState) (lane k : ℕ) (update : MasterArbitrationUpdate) → IsSound c (arbitration_unless (if update.device_id == c.device then cause c.roles lane update else Some arbitration.A1) c lane k update)
-arbitration_sound c lane k update = arbitration_unless_sound _ c lane k update (by_device (update.device_id == c.device) (cause c.roles lane update))
+arbitration_sound : (c : ControlState) (lane k : ℕ) (update : MasterArbitrationUpdate) → IsSound c (arbitration_answer c lane k update)
+arbitration_sound c lane k update = arbitration_unless_sound _ c lane k update (by_device (update.device_id == c.device) (cause c.roles lane (read_update update)))
 
 unreadable_sound : (c : ControlState) (method : Method) → IsSound c (unreadable method)
 unreadable_sound c methods.Write = plain_sound c codes.InvalidArgument _ refl

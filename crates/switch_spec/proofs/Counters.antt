@@ -108,10 +108,10 @@ never_hit a b differ = grind (arith, nat_tests)
 -- an entry that was there is hit by its slot just where it is by its number
 entry_alike : (before now : Plane) (e f : Entry) (slot : ℕ) (o : Option ℕ) → TellAlike before now → Contains before.entries e → Contains now.entries f → f.slot ≡ Some slot → e.slot ≡ o → is_slot slot o ≡ eqb e.seq f.seq
 entry_alike before now e f slot None tell at there own is =
-    sym (never_hit e.seq f.seq (λ same. let equal = tell.slots e f at there same in absurd (cc)))
+    sym (never_hit e.seq f.seq (λ same. let equal = tell.slots e f slot at there same own in absurd (cc)))
 entry_alike before now e f slot (Some other) tell at there own is =
     tests_alike other slot e.seq f.seq (λ same. tell.numbers e f slot at there (is ∙ ap (λ n. Some n) same) own)
-    (λ same. let equal = tell.slots e f at there same in cc)
+    (λ same. let equal = tell.slots e f slot at there same own in cc)
 
 hit_of_entry : (before now : Plane) (f : Entry) (slot : ℕ) → TellAlike before now → Contains now.entries f → f.slot ≡ Some slot → (hit : HitMark) → IsThere before hit → is_of_slot slot hit ≡ is_of_entry f.seq hit
 hit_of_entry before now f slot tell there own (marks.Entry table seq o) is =

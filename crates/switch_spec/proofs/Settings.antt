@@ -17,7 +17,6 @@ use Rattle.p4_types.specs.declared.messages.GetForwardingPipelineConfigRequest.{
 use Rattle.p4_types.specs.declared.messages.SetForwardingPipelineConfigRequest.{SetForwardingPipelineConfigRequest}
 use Rattle.p4_types.specs.declared.messages.Uint128.{Uint128}
 use Rattle.plane_spec.specs.Config.{Config, Event, cells_in}
-use Rattle.plane_spec.specs.Entries.{slot_limit}
 use Rattle.plane_spec.specs.Legal.{May, MaySet, MayMake, Legal}
 use Rattle.plane_spec.specs.Planes.{ControlState, Plane, primary, is_of_primary, scope_in, staged_committed, applied}
 use Rattle.role_arbiter.specs.declared.sessions.Session.{Session}
@@ -96,8 +95,8 @@ promotes c by set staged = record {
 not_more : (m n : ℕ) → nat_lt m n ≡ false → n ≤ m
 not_more m n h = grind (arith, nat_tests)
 
-may_make : (c : ControlState) (given : ForwardingPipelineConfig) (config : Config) → config_meant given ≡ Ok config → nat_lt slot_limit (c.next_slot + cells_in config) ≡ false → MayMake c config
-may_make c given config is slots = record { valid = meant_is_valid given config is; slots = not_more slot_limit _ slots }
+may_make : (c : ControlState) (given : ForwardingPipelineConfig) (config : Config) → config_meant given ≡ Ok config → nat_lt c.slots (c.next_slot + cells_in config) ≡ false → MayMake c config
+may_make c given config is slots = record { valid = meant_is_valid given config is; slots = not_more c.slots _ slots }
 
 made_unless : (b : Bool) (c : ControlState) (by : Origin) (action : PipelineAction) (given : ForwardingPipelineConfig) (config : Config) → config_meant given ≡ Ok config → MaySet c by
     → lacks_slots c action config ≡ b → SetSound c (events_unless b by action config)

@@ -2,6 +2,7 @@
 use Rattle.std.specs.Prelude.{◌≡◌, ℕ, ℤ, pos, negsuc, ◌==◌, nat_lt, not, Bool, true, false, if◌then◌else◌, List, [], ◌∷◌, map, length, Option, Some, None, is_some, Result, Ok, Err, is_err}
 use Rattle.std.specs.List.{filter_map, list_any}
 use Rattle.std.specs.Result.{result_ok}
+use Rattle.p4_types.specs.declared.calls.ArbitrationUpdate.{ArbitrationUpdate}
 use Rattle.p4_types.specs.declared.calls.Atomicity.{Atomicity}
 use Rattle.p4_types.specs.declared.calls.Atomicity.TheVariants as atomicities
 use Rattle.p4_types.specs.declared.calls.Call.{Call}
@@ -26,6 +27,7 @@ use Rattle.p4_types.specs.declared.messages.Update.{Update}
 use Rattle.p4_types.specs.declared.messages.WriteRequest.{WriteRequest}
 use Rattle.p4_types.specs.declared.table.Change.{Change}
 use Rattle.p4v1_read.specs.Calls.{call_of}
+use Rattle.p4v1_read.specs.RoleConfigs.{read_update}
 use Rattle.role_arbiter.specs.declared.sessions.Session.{Session}
 use Rattle.role_arbiter.specs.Arbitration.{cause, asked, arbitrated, left}
 use Rattle.role_arbiter.specs.State.{session_in}
@@ -157,7 +159,7 @@ unreadable methods.StreamChannel = plain codes.InvalidArgument []
 unreadable _ = failed codes.InvalidArgument
 
 -- a session is made or changed as the update asks for, unless a rule refuses it
-abbrev pub arbitration_unless : Option ArbitrationRule → ControlState → ℕ → ℕ → MasterArbitrationUpdate → Answer
+abbrev pub arbitration_unless : Option ArbitrationRule → ControlState → ℕ → ℕ → ArbitrationUpdate → Answer
 arbitration_unless (Some rule) c lane k update = plain (arbitration_code rule) []
 arbitration_unless None c lane k update =
     let new = asked lane update in
@@ -168,7 +170,8 @@ arbitration_unless None c lane k update =
 
 -- A1 to A5: the device is looked at first
 abbrev pub arbitration_answer : ControlState → ℕ → ℕ → MasterArbitrationUpdate → Answer
-arbitration_answer c lane k update = arbitration_unless (if update.device_id == c.device then cause c.roles lane update else Some arbitration.A1) c lane k update
+arbitration_answer c lane k update =
+    arbitration_unless (if update.device_id == c.device then cause c.roles lane (read_update update) else Some arbitration.A1) c lane k (read_update update)
 
 -- the caller is told that its message is not served
 abbrev pub unserved_answer : ℕ → Answer

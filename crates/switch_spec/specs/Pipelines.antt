@@ -24,7 +24,6 @@ use Rattle.p4v1_wire.specs.ResponseRows.{get_response_rows}
 use Rattle.p4v1_wire.specs.Rows.{fields_by}
 use Rattle.p4v1_wire.specs.StatusRows.{status_rows}
 use Rattle.plane_spec.specs.Config.{Config, Event, cells_in}
-use Rattle.plane_spec.specs.Entries.{slot_limit}
 use Rattle.plane_spec.specs.Planes.{ControlState, Plane, target, primary, is_of_primary, scope_in}
 use Rattle.role_arbiter.specs.declared.sessions.Session.{Session}
 use Rattle.switch_spec.specs.declared.refusals.SetRefusal.{SetRefusal}
@@ -86,7 +85,7 @@ makes_plane _ = false
 
 -- S7: the cells of the configuration's counters need more slots than are left
 abbrev pub lacks_slots : ControlState → PipelineAction → Config → Bool
-lacks_slots c action config = makes_plane action && nat_lt slot_limit (c.next_slot + cells_in config)
+lacks_slots c action config = makes_plane action && nat_lt c.slots (c.next_slot + cells_in config)
 
 -- the events of an action with a configuration
 abbrev pub config_events : Origin → PipelineAction → Config → List Event

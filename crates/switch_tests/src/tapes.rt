@@ -14,6 +14,7 @@ const BRIDGE: Start = Start {
     device: 1,
     cpu: 255,
     rows: 16_384,
+    slots: 1_048_576,
     bridge: true,
 };
 

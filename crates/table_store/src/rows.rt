@@ -3,7 +3,7 @@ ghost use Rattle.std.specs.Prelude.{◌≡◌, ◌==◌, ◌++◌, [], ◌∷◌
 ghost use Rattle.std.specs.Prelude as spec;
 ghost use Rattle.std.specs.List.{position};
 ghost use Rattle.p4_types.specs.declared.keys.FieldTest.{FieldTest};
-ghost use Rattle.plane_spec.specs.Entries.{same_name, with_change, modified, deleted, is_counted, next_number, next_slot, new_entry};
+ghost use Rattle.plane_spec.specs.Entries.{same_name, with_change, modified, deleted, is_counted, next_number, new_entry};
 ghost use Rattle.match_index.specs.Index.{row_of, has_row, Covers};
 ghost use Rattle.match_index.specs.Order.{AreInOrder};
 ghost use Rattle.table_store.specs.Groups.{IsGroup, IsFresh};
@@ -13,7 +13,6 @@ use crate::causes::is_counted;
 use crate::groups::Group;
 use list_types::NoMemory;
 use match_index::{MatchIndex, Row};
-use p4_types::events::SLOT_LIMIT;
 use p4_types::info::Table;
 use p4_types::table::{Entry, EntryChange, EntryName, Room};
 use std::alloc::Global;
@@ -47,10 +46,10 @@ fn next_number(room: Room) -> u64
 
 // The slot of the entry that an INSERT makes.
 fn new_slot(table: &Table, room: Room) -> Option<u32>
-    ensures { result ≡ (if is_counted table.now then Some (next_slot room) else None) }
+    ensures { result ≡ (if is_counted table.now then Some room.next_slot else None) }
 {
     if is_counted(table) {
-        Some(SLOT_LIMIT.saturating_sub(room.slots))
+        Some(room.next_slot)
     } else {
         None
     }

@@ -136,16 +136,6 @@ impl<T: Drop> UndoVec<T> {
         Ok(())
     }
 
-    /// Removes the item at a place for good, and with it all that could be undone. It takes no memory.
-    pub fn discard(&mut self, place: usize)
-        requires { place < length self.old.items }
-        ensures items { self.new.items ≡ remove self.old.items place }
-        ensures before { self.new.before ≡ self.new.items }
-    {
-        self.log.clear();
-        self.items.remove(place);
-    }
-
     /// Keeps all edits: they can no longer be undone. It takes no memory, and writes nothing where there is none, so that a thread
     /// which reads what stands beside it need not fetch that anew.
     pub fn settle(&mut self)

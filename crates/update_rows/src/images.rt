@@ -40,6 +40,7 @@ pub fn bridge(alloc: Global) -> Result<Image, NoAnswer> {
         device: 1,
         cpu: 255,
         rows: 1_024,
+        slots: 1_048_576,
         bridge: true,
     };
     Ok(Image::open(alloc, &start)?)
@@ -58,6 +59,7 @@ pub fn image_of(alloc: Global, info: P4Info, rows: u32) -> Result<Image, NoAnswe
         device: 1,
         cpu: 255,
         rows,
+        slots: 1_048_576,
         bridge: false,
     };
     let config = config_of(alloc, info)?;

@@ -68,6 +68,8 @@ fn room_of(rows: u32, slots: u32, numbers: u64) -> Room {
     Room {
         rows,
         slots,
+        next_slot: 0,
+        next_stamp: 0,
         numbers,
     }
 }

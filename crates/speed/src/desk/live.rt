@@ -18,8 +18,8 @@ impl<J: Naming + Send, R: Wait + Drop> Desk for LiveDesk<J, R> {
 
     type Worker = DeskWorker<J>;
 
-    fn make(&self, pass: &mut Pass<J>, call: &Call) -> Made {
-        let reply = self.ask(pass, call);
+    fn make(&self, pass: &mut Pass<J>, call: &Call, verdict: &mut Verdict) -> Made {
+        let reply = self.ask(pass, call, verdict);
         let ok = match reply.code {
             Code::Ok => 1,
             _ => 0,

@@ -12,8 +12,8 @@ pub trait Desk {
     /// What runs packets.
     type Worker: Worker + Send + Drop;
 
-    /// Makes a call, and says what came of it.
-    fn make(&self, pass: &mut Self::Pass, call: &Call) -> Made;
+    /// Makes a call, whose packet is run into a verdict, and says what came of it.
+    fn make(&self, pass: &mut Self::Pass, call: &Call, verdict: &mut Verdict) -> Made;
 
     /// Runs a packet within a burst. Whether it was sent.
     fn carry(&self, worker: &mut Self::Worker, load: &Load, verdict: &mut Verdict) -> bool;

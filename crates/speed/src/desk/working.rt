@@ -5,6 +5,7 @@ use crate::desk::looking::{Sight, enter_often, look};
 use crate::desk::measured::{Desk, Worker};
 use list_types::NoMemory;
 use p4_types::calls::Call;
+use pkt_worker::Verdict;
 use std::alloc::Global;
 use std::sync::Wait;
 use std::sync::atomic::{AtomicBool, Ordering};
@@ -111,7 +112,7 @@ fn work_each<D: Desk + Send + Sync, R: Threads + Wait + Send + Sync>(
     all_of(each?.as_slice())
 }
 
-/// Makes calls one after another, so often, unless the workers are done before.
+/// Makes calls one after another, so often, unless the workers are done before. Without memory for a packet it makes none.
 pub fn make_calls<D: Desk, R>(
     shared: &Shared<D, R>,
     pass: &mut D::Pass,
@@ -119,12 +120,15 @@ pub fn make_calls<D: Desk, R>(
     turns: u64,
 ) -> Made {
     let mut made = Made { ok: 0, steps: 0 };
+    let Ok(mut verdict) = Verdict::open(shared.alloc) else {
+        return made;
+    };
     for _ in 0..turns {
         for call in calls {
             if shared.is_done.load(Ordering::SeqCst) {
                 return made;
             }
-            made = made.and_then(shared.desk.make(pass, call));
+            made = made.and_then(shared.desk.make(pass, call, &mut verdict));
         }
     }
     made

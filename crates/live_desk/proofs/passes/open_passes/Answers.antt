@@ -21,13 +21,13 @@ lanes-preserved g c =
     let i = c.lanes.invariant in
     let fewer : ℕ = c.lanes.lane - 1 in
     let one : c.lanes.lane ≡ fewer + 1 = omega (arith, c.lanes-test.true) in
-    let more : c.lanes.passes.items ++ c.in_ok-pass.pass ∷ [] ≡ c.push.new.self.items = sym c.in_ok-push.ensures.items in
-    let lanes = lanes_more c.lanes.lane fewer 32 c.lanes.passes.items c.in_ok-pass.pass one c.in_ok-pass.ensures.lane i.4 in
-    let all = All-snoc (IsNew g.J.Naming.list g.J.Naming.start g.J.Naming.bank) c.lanes.passes.items c.in_ok-pass.pass i.5 c.in_ok-pass.ensures.pass in (
+    let more : c.lanes.passes.items ++ c.next_pass-pass.result ∷ [] ≡ c.push.new.self.items = sym c.in_ok-push.ensures.items in
+    let lanes = lanes_more c.lanes.lane fewer 32 c.lanes.passes.items c.next_pass-pass.result one c.next_pass-pass.ensures.lane i.4 in
+    let all = All-snoc (IsNew g.J.Naming.list g.J.Naming.start g.J.Naming.bank) c.lanes.passes.items c.next_pass-pass.result i.5 c.next_pass-pass.ensures.pass in (
       omega (arith, i.0),
-      c.next_pass.ensures.places,
-      c.next_pass.ensures.workers,
-      omega (arith, i.3, c.next_pass.ensures.fewer, one),
+      c.next_pass-pass.ensures.places,
+      c.next_pass-pass.ensures.workers,
+      omega (arith, i.3, c.next_pass-pass.ensures.fewer, one),
       subst (λ (l : List Passing). map (λ (p : Passing). p.lane) l ++ lanes_below fewer ≡ lanes_below 32) more lanes,
       subst (λ (l : List Passing). AllByRecursion (IsNew g.J.Naming.list g.J.Naming.start g.J.Naming.bank) l) more all,
     )

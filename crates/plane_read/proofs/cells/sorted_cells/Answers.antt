@@ -4,7 +4,8 @@ use Rattle.p4_types.specs.declared.info.Counter.{Counter}
 use Rattle.plane_read.specs.Answered.{HasSlots}
 use Rattle.plane_read.proofs.CellSteps.{All-placed, drop_step, sizes_step}
 use Rattle.switch_spec.specs.declared.cells.Cells.{Cells}
-use Rattle.switch_spec.specs.Reading.{placed, cells_at}
+use Rattle.plane_spec.specs.Shown.{placed}
+use Rattle.switch_spec.specs.Reading.{cells_at}
 use Rattle.plane_read.proofs.cells.sorted_cells.Goals as goal
 
 pub loop-counter-preserved : goal.loop-counter-preserved

@@ -1,5 +1,6 @@
 use Rattle.std.proofs.Common.{◌≡◌, drop, map, fold}
-use Rattle.switch_spec.specs.Reading.{placed, table_ids}
+use Rattle.plane_spec.specs.Shown.{placed}
+use Rattle.switch_spec.specs.Reading.{table_ids}
 use Rattle.plane_read.proofs.defaults.table_ids.Given as goal
 
 abbrev pub invariant-loop-table : goal.invariant-loop-table

@@ -1,5 +1,6 @@
 use denote.Param.Send.{sendable}
-use Rattle.desk_crossings.proofs.Desks.{desk_send, desk_sync, desk_worker_send, pass_send}
+use Rattle.desk_crossings.proofs.Desks.{desk_send, desk_sync, desk_worker_send}
+use Rattle.serve_run.proofs.Crossing.{link_pass_send}
 use Rattle.serve_run.proofs.opening.serve_desk.Goals as goal
 
 -- the desk, its passes, its workers, links and ports go to other threads, and threads share the desk
@@ -9,7 +10,7 @@ serve_at-requires g c k = (
   (
     search sendable depth 20,
     (
-      search (pass_send, sendable) depth 20,
+      search (link_pass_send, sendable) depth 20,
       (
         search (desk_worker_send, sendable) depth 20,
         (

@@ -7,6 +7,5 @@ returns c = record {
   actions = search rules;
   action_profiles = search rules;
   counters = search rules;
-  direct_counters = search rules;
   digests = search rules;
 }

@@ -1,0 +1,4 @@
+pub mod Generated
+pub mod Laws
+pub mod Router
+pub mod Summary

@@ -1,8 +1,0 @@
-use Rattle.std.proofs.Common.{◌==◌, ◌∙◌, ap}
-use Rattle.std.specs.List.{find}
-use Rattle.p4info_model.specs.Valid.{IsValidDirectCounter}
-use Rattle.p4info_model.proofs.Kept.{found_valid}
-use Rattle.p4info_model.proofs.valid.P4Info.direct_counter.Goals as goal
-
-pub returns-clause-valid : goal.returns-clause-valid
-returns-clause-valid c = rw (← c.self.view_is) (found_valid (IsValidDirectCounter c.self.inside.info) (λ x. x.preamble.id == c.args.id) c.self.inside.info.direct_counters c.found.result (c.found.ensures ∙ ap (find (λ x. x.preamble.id == c.args.id)) c.as_slice-counters.ensures) c.self.invariant.valid.direct_counters)

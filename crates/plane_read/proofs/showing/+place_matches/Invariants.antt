@@ -1,5 +1,0 @@
-use Rattle.std.proofs.Common.{length}
-use Rattle.plane_read.proofs.showing.+place_matches.Given as goal
-
-abbrev pub decreases-place_matches : goal.decreases-place_matches
-decreases-place_matches l = length l.fields.now

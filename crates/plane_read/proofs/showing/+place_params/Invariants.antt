@@ -1,5 +1,0 @@
-use Rattle.std.proofs.Common.{length}
-use Rattle.plane_read.proofs.showing.+place_params.Given as goal
-
-abbrev pub decreases-place_params : goal.decreases-place_params
-decreases-place_params l = length l.params.now
