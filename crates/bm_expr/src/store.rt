@@ -151,6 +151,7 @@ impl Store {
         self.fields[place.index] = cut(value, place.width);
     }
 
+    /// Whether a header instance is valid (P4-16, "Operations on headers"), by its place in the program.
     pub fn is_valid(&self, header: usize) -> bool
         requires header_in_store { header < length self.now.valid }
         ensures { result ≡ header_valid self.now header }

@@ -42,6 +42,7 @@ impl Pipeline {
         Pipeline { program }
     }
 
+    /// The program, which is valid as long as it stands in a pipeline.
     pub fn program(&self) -> &Program
         ensures view { result.now ≡ self.now }
         ensures valid { IsValid result.now }

@@ -144,6 +144,7 @@ impl Lists {
         self.digests[place].id()
     }
 
+    /// Whether no digest is set.
     pub fn is_empty(&self) -> bool
         ensures { result ≡ (length self.now == 0) }
     {

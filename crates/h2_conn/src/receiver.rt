@@ -108,6 +108,7 @@ impl Model for Receiver {
 }
 
 impl Receiver {
+    /// A receiver that goes on from a state, with nothing read of the next frame.
     pub fn new(state: State) -> Receiver
         ensures { result ≡ state }
     {

@@ -53,6 +53,7 @@ impl Unread {
         }
     }
 
+    /// How many bytes were kept: of a head, the length of a padding and a payload.
     pub fn len(&self) -> usize
         ensures { result ≡ length self.now }
     {
@@ -63,6 +64,7 @@ impl Unread {
         self.head.as_slice().len() + behind
     }
 
+    /// Whether no byte of a next frame was kept.
     pub fn is_empty(&self) -> bool
         ensures { result ≡ (length self.now == 0) }
     {

@@ -31,18 +31,21 @@ impl Fragment {
         Fragment { buffer, start: 0 }
     }
 
+    /// The bytes that are left, in order.
     pub fn as_slice(&self) -> &[u8]
         ensures { result.now ≡ self.now }
     {
         &self.buffer.as_slice()[self.start..]
     }
 
+    /// How many bytes are left.
     pub fn len(&self) -> usize
         ensures { result ≡ length self.now }
     {
         self.buffer.len() - self.start
     }
 
+    /// Whether no byte is left.
     pub fn is_empty(&self) -> bool
         ensures { result ≡ (length self.now == 0) }
     {

@@ -48,7 +48,7 @@ impl Message {
         &left[..count]
     }
 
-    /// So many bytes more were sent.
+    /// So many bytes more of the message were sent.
     pub fn advance(&mut self, count: usize)
         requires { count ≤ length self.old }
         ensures { self.new ≡ drop count self.old }
@@ -89,6 +89,7 @@ impl Queue {
         }
     }
 
+    /// How many messages and header blocks wait to be sent on the stream.
     pub fn len(&self) -> usize
         ensures { result ≡ length self.now }
     {

@@ -14,6 +14,7 @@ pub fn width_of(bits: i32) -> Option<u32>
     Some(bits as u32)
 }
 
+/// A size in rows or cells, as a P4Info gives it by an `int64`; none where it is negative.
 pub fn size_of(number: i64) -> Option<u64>
     ensures size { result ≡ size_of number }
     ensures small { IfSome result (λ size. size < 2 ^ 63) }
@@ -24,6 +25,7 @@ pub fn size_of(number: i64) -> Option<u64>
     Some(number as u64)
 }
 
+/// A size in rows or members, as a P4Info gives it by an `int32`; none where it is negative.
 pub fn small_size_of(number: i32) -> Option<u32>
     ensures size { result ≡ size_of number }
     ensures small { IfSome result (λ size. size < 2 ^ 31) }
@@ -34,6 +36,7 @@ pub fn small_size_of(number: i32) -> Option<u32>
     Some(number as u32)
 }
 
+/// The match kind of a number of the enumeration `MatchField.MatchType`; none for UNSPECIFIED and numbers without a name.
 pub fn kind_of(number: i32) -> Option<MatchKind>
     ensures { result ≡ kind_of number }
 {
@@ -47,6 +50,7 @@ pub fn kind_of(number: i32) -> Option<MatchKind>
     }
 }
 
+/// The scope of a number of the enumeration `ActionRef.Scope`; none for a number without a name.
 pub fn scope_of(number: i32) -> Option<Scope>
     ensures { result ≡ scope_of number }
 {

@@ -137,6 +137,7 @@ impl<'a> Items<'a> {
         self.count
     }
 
+    /// The next element of the array, if there is one more (RFC 8259, section 5).
     pub fn next(&mut self) -> Option<Element<'a>>
         ensures value { MatchOption result (items_in self.old ≡ []) (λ e. items_in self.old ≡ view e ∷ items_in self.new) }
         ensures place { IfSome result (λ e. (e ≡ self.old.1) × AreBehind e self.new.1) }
@@ -204,18 +205,21 @@ impl<'a> Element<'a> {
         self.nodes[0].node()
     }
 
+    /// Whether the element is `null`.
     pub fn is_null(&self) -> bool
         ensures { result ≡ is_some (as_null (view self.now)) }
     {
         is_null_node(self.node())
     }
 
+    /// The truth value, where the element is `true` or `false`.
     pub fn as_bool(&self) -> Option<bool>
         ensures { result ≡ as_bool (view self.now) }
     {
         truth_in(self.node())
     }
 
+    /// The text of a string, with its escapes resolved (RFC 8259, section 7), where the element is one.
     pub fn as_str(&self) -> Option<&'a str>
         ensures { option_map (λ s. s.now) result ≡ as_str (view self.now) }
     {
@@ -247,6 +251,7 @@ impl<'a> Element<'a> {
         }
     }
 
+    /// Whether the element is an array.
     pub fn is_array(&self) -> bool
         ensures { result ≡ is_some (as_array (view self.now)) }
     {

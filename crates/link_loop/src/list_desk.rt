@@ -29,6 +29,7 @@ impl Model for ListPass {
 }
 
 impl ListPass {
+    /// A pass of this lane that gives these answers and what waits, in order.
     pub fn new(lane: u16, replies: VecDeque<Reply>, nexts: VecDeque<Next>) -> ListPass
         ensures { result ≡ record { lane = lane; replies = replies.items; nexts = nexts.items } }
     {

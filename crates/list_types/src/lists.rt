@@ -45,18 +45,21 @@ impl<T> List<T> {
         self.items
     }
 
+    /// The items in order.
     pub fn as_slice(&self) -> &[T]
         ensures { result.now ≡ self.now }
     {
         self.items.as_slice()
     }
 
+    /// How many items there are.
     pub fn len(&self) -> usize
         ensures { result ≡ length self.now }
     {
         self.items.len()
     }
 
+    /// Whether there is no item.
     pub fn is_empty(&self) -> bool
         ensures { result ≡ (length self.now == 0) }
     {
@@ -107,6 +110,7 @@ impl Text {
         Text { text }
     }
 
+    /// The text, which is UTF-8.
     pub fn as_str(&self) -> &str
         ensures { result.now ≡ self.now }
     {

@@ -30,6 +30,7 @@ impl Model for Packets {
 }
 
 impl Packets {
+    /// The records of no packet.
     pub fn open(alloc: Global) -> Packets
         ensures { result ≡ [] }
     {
@@ -74,6 +75,7 @@ impl Packets {
         Ok(())
     }
 
+    /// The records in the order in which the packets were run.
     pub fn into_list(self) -> List<Record>
         ensures { result ≡ self }
     {

@@ -123,6 +123,7 @@ fn carry(
 }
 
 impl Session {
+    /// A session behind no record of a tape, with the scratch that its packets use; refused for memory alone.
     pub fn open(alloc: Global, start: Start) -> Result<Session, NoMemory>
         ensures played { IfOk result (λ s. played_of s ≡ begun start) }
         ensures session { IfOk result IsSession }

@@ -48,6 +48,7 @@ impl<T> Outbox<T> {
         self.waiting.len()
     }
 
+    /// Whether nothing waits to be sent to the controller.
     pub fn is_empty(&self) -> bool
         ensures { result ≡ (length self.now == 0) }
     {

@@ -25,6 +25,7 @@ impl<'a> Name<'a> {
         Name { text }
     }
 
+    /// The name, which is UTF-8.
     pub fn as_str(&self) -> &'a str
         ensures { result.now ≡ self.now }
     {

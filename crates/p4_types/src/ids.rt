@@ -34,12 +34,14 @@ impl Ids {
         }
     }
 
+    /// The ids in the order in which they were added.
     pub fn as_slice(&self) -> &[u32]
         ensures { result.now ≡ self.now }
     {
         &self.items[..self.len]
     }
 
+    /// Whether there is no room for one more: 128 are in it.
     pub fn is_full(&self) -> bool
         ensures { result ≡ nat_le 128 (length self.now) }
     {
@@ -55,6 +57,7 @@ impl Ids {
         self.len += 1;
     }
 
+    /// The same ids once more; it takes no memory.
     pub fn copy(&self) -> Ids
         ensures { result ≡ self.now }
     {

@@ -63,6 +63,7 @@ impl Tests {
         }
     }
 
+    /// The tests, one for each field of the table's key, in the order of the P4Info.
     pub fn as_slice(&self) -> &[FieldTest]
         ensures { result.now ≡ self.now }
     {
@@ -78,6 +79,7 @@ impl Tests {
         self.len += 1;
     }
 
+    /// The same tests once more; it takes no memory.
     pub fn copy(&self) -> Tests
         ensures { result ≡ self.now }
     {
@@ -116,6 +118,7 @@ impl Arguments {
         }
     }
 
+    /// The arguments, in the order of the action's parameters.
     pub fn as_slice(&self) -> &[u128]
         ensures { result.now ≡ self.now }
     {
@@ -131,6 +134,7 @@ impl Arguments {
         self.len += 1;
     }
 
+    /// The same arguments once more; it takes no memory.
     pub fn copy(&self) -> Arguments
         ensures { result ≡ self.now }
     {

@@ -35,6 +35,8 @@ pub enum Entity {
     ActionProfileGroup(ActionProfileGroup),
     CounterEntry(CounterEntry),
     DirectCounterEntry(DirectCounterEntry),
+    /// An entry of the packet replication engine: a multicast group, or none where another choice is given.
+    PacketReplicationEngineEntry(Option<MulticastGroupEntry>),
     DigestEntry(DigestEntry),
     /// An entity that is not served, by the number of its field.
     Other(u32),
@@ -151,6 +153,20 @@ pub struct CounterEntry {
 pub struct DirectCounterEntry {
     pub table_entry: Option<TableEntry>,
     pub content: Option<CounterData>,
+}
+
+/// A group of ports to which a packet is copied.
+#[derive(Drop)]
+pub struct MulticastGroupEntry {
+    pub multicast_group_id: u32,
+    pub replicas: List<Replica>,
+}
+
+/// A copy of a packet: the port at which it leaves, and the number that tells it from other copies at that port.
+#[derive(Clone, Copy)]
+pub struct Replica {
+    pub egress_port: u32,
+    pub instance: u32,
 }
 
 #[derive(Clone, Copy)]

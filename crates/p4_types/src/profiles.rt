@@ -15,6 +15,7 @@ pub struct Member {
 }
 
 impl Member {
+    /// The same member once more; it takes no memory.
     pub fn copy(&self) -> Member
         ensures { result ≡ self.now }
     {

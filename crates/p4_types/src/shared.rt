@@ -37,6 +37,7 @@ impl<T: Drop> Shared<T> {
         Ok(Shared { value })
     }
 
+    /// The value that the owners share.
     pub fn get(&self) -> &T
         ensures { result.now ≡ self.now }
     {

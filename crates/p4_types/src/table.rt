@@ -17,6 +17,7 @@ pub struct ActionCall {
 }
 
 impl ActionCall {
+    /// The same call once more; it takes no memory.
     pub fn copy(&self) -> ActionCall
         ensures { result ≡ self.now }
     {
@@ -96,6 +97,7 @@ pub struct EntryName {
 }
 
 impl EntryName {
+    /// The same name once more; it takes no memory.
     pub fn copy(&self) -> EntryName
         ensures { result ≡ self.now }
     {

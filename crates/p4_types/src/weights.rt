@@ -52,12 +52,14 @@ impl<T: Weighted + Drop> WeightedList<T> {
         Ok(())
     }
 
+    /// The items in the order in which they were added.
     pub fn as_slice(&self) -> &[T]
         ensures { result.now ≡ self.now }
     {
         self.items.as_slice()
     }
 
+    /// How many items there are.
     pub fn len(&self) -> usize
         ensures { result ≡ length self.now }
     {

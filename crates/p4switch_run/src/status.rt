@@ -54,6 +54,7 @@ impl Status {
         }
     }
 
+    /// The exit status of the program, 0 to 8.
     pub fn number(self) -> u8
         ensures { result ≡ status_number self }
     {

@@ -42,6 +42,7 @@ impl PacketBuf {
         Ok(PacketBuf { bytes, used: 0 })
     }
 
+    /// The bytes that were written, in order.
     pub fn as_slice(&self) -> &[u8]
         ensures { result.now ≡ self.now }
     {

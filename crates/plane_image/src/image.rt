@@ -79,6 +79,7 @@ impl Drop for Image {
 }
 
 impl Image {
+    /// The device id that calls must name.
     pub fn device(&self) -> u64
         ensures { result ≡ self.now.now.device }
     {
@@ -108,6 +109,7 @@ impl Image {
         self.planes.active()
     }
 
+    /// Whether a saved pipeline waits to be committed.
     pub fn is_staged(&self) -> bool
         ensures { result ≡ is_some self.now.now.staged }
     {

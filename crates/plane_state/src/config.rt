@@ -126,6 +126,7 @@ impl Config {
         self.device_config.as_slice()
     }
 
+    /// The cookie of the configuration; 0 where none was given.
     pub fn cookie(&self) -> u64
         ensures { result ≡ self.now.cookie }
     {
@@ -139,6 +140,7 @@ impl Config {
         &self.info
     }
 
+    /// The program that packets run through.
     pub fn pipeline(&self) -> &Pipeline
         ensures { result.now ≡ self.now.program }
     {

@@ -59,6 +59,7 @@ impl Plane {
         }
     }
 
+    /// The configuration that the plane was made of.
     pub fn config(&self) -> &Config
         ensures { result.now ≡ self.now.now.config }
     {

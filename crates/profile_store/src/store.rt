@@ -57,6 +57,7 @@ impl ProfileStore {
         }
     }
 
+    /// The member of a profile by its id, if there is one.
     pub fn member(&self, profile: u32, id: u32) -> Option<&Member>
         ensures { option_map (λ member. member.now) result ≡ member_of profile id (members_of self.now.now) }
     {
@@ -66,6 +67,7 @@ impl ProfileStore {
         }
     }
 
+    /// The group of a profile by its id, if there is one.
     pub fn group(&self, profile: u32, id: u32) -> Option<&Group>
         ensures { option_map (λ group. group.now) result ≡ group_of profile id (groups_of self.now.now) }
     {

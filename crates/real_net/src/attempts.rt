@@ -29,7 +29,7 @@ fn trouble_of(error: &io::Error) -> Trouble
     }
 }
 
-// The answer of a call, with what its error means.
+/// The answer of a call, with what its error means.
 pub fn judged<T>(answer: io::Result<T>) -> Result<T, Trouble>
     ensures { result ≡ judged answer }
 {

@@ -11,7 +11,7 @@ const HEAD: usize = 2;
 // The bytes of the longest datagram that is sent. One that comes in is cut to so many, and is still too long for a packet.
 pub const LONGEST: usize = HEAD + MAX_OUTPUT;
 
-// The port and the packet of a datagram; nothing where it is too short or too long, and where the switch has no such port.
+/// The port and the packet of a datagram; nothing where it is too short or too long, and where the switch has no such port.
 pub fn arrival_of(datagram: &[u8]) -> Option<(u16, &[u8])>
     ensures { MatchOption result (BearsNone datagram.now) (λ a. Bears datagram.now a.0 a.1.now) }
 {
@@ -26,7 +26,7 @@ pub fn arrival_of(datagram: &[u8]) -> Option<(u16, &[u8])>
     Some((port, packet))
 }
 
-// Writes a packet's datagram into the front of the room, and says how long it is.
+/// Writes a packet's datagram into the front of the room, and says how long it is.
 pub fn write_datagram(room: &mut [u8], port: u16, packet: &[u8]) -> usize
     requires packet { length packet.now ≤ MAX_OUTPUT }
     requires room { length room.old ≡ 2 + MAX_OUTPUT }

@@ -30,6 +30,7 @@ impl<S> Model for RealLink<S> {
 }
 
 impl<S> RealLink<S> {
+    /// A link over a stream, with nothing counted.
     pub fn new(stream: S) -> RealLink<S>
         ensures { result ≡ record { stream = stream; faults = 0; quiets = 0; ends = 0 } }
     {

@@ -74,6 +74,7 @@ fn bind_packets<N: Network>(network: &N, port: u16) -> io::Result<Option<Bound<N
 }
 
 impl<N: Network> RealNet<N> {
+    /// A net that listens nowhere yet.
     pub fn new(network: N) -> RealNet<N>
         ensures { result ≡ record { network = network; listener = None; packets = None; faults = 0; quiets = 0 } }
     {

@@ -22,6 +22,7 @@ impl<F> Model for FlagStop<F> {
 }
 
 impl<F> FlagStop<F> {
+    /// A stop that is asked for once the flag says so.
     pub fn new(flag: F) -> FlagStop<F>
         ensures { result ≡ record { flag = flag; yeses = 0 } }
     {
@@ -65,6 +66,7 @@ impl Model for ListStop {
 }
 
 impl ListStop {
+    /// A stop that gives these answers in order, and then yes.
     pub fn new(answers: Vec<bool>) -> ListStop
         ensures { result ≡ record { coming = answers.items; yeses = 0 } }
     {

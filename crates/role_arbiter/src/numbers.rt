@@ -33,6 +33,7 @@ impl Lanes {
         }
     }
 
+    /// The lanes in the order in which they were added.
     pub fn as_slice(&self) -> &[u16]
         ensures { result.now ≡ self.now }
     {

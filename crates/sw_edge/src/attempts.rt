@@ -6,7 +6,7 @@ use crate::{Got, Sent};
 use std::io::{self, ErrorKind};
 use std::time::Duration;
 
-// What one read tells; nothing where a signal cut it short, and then it is tried again.
+/// What one read tells; nothing where a signal cut it short, and then it is tried again.
 pub fn told_by(answer: &io::Result<usize>) -> Option<Got>
     ensures { ReadTells answer.now result }
 {
@@ -18,7 +18,7 @@ pub fn told_by(answer: &io::Result<usize>) -> Option<Got>
     }
 }
 
-// How many bytes one write took, none where a signal cut it short; nothing where no more are to be tried.
+/// How many bytes one write took, none where a signal cut it short; nothing where no more are to be tried.
 pub fn taken_by(answer: &io::Result<usize>) -> Option<usize>
     ensures { WriteTakes answer.now result }
 {
@@ -30,7 +30,7 @@ pub fn taken_by(answer: &io::Result<usize>) -> Option<usize>
     }
 }
 
-// What is told of bytes of which so many were taken, and behind which a flush was answered so.
+/// What is told of bytes of which so many were taken, and behind which a flush was answered so.
 pub fn sent_by(done: usize, wanted: usize, flushed: &io::Result<()>) -> Sent
     ensures { (result ≡ Sent.All) ↔ ((done ≡ wanted) × IsOk flushed.now) }
 {
@@ -52,7 +52,7 @@ fn nanoseconds(passed: u128) -> u64
     }
 }
 
-// The moment that is told behind another; that one again where the clock was not read and where it went back.
+/// The moment that is told behind another; that one again where the clock was not read and where it went back.
 pub fn moment(last: u64, read: &io::Result<Duration>) -> u64
     ensures { result ≡ moment last read.now }
 {

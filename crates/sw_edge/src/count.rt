@@ -5,7 +5,7 @@ ghost use Rattle.sw_edge.specs.Memory.{Picked, picks, is_next, after_call, after
 
 use std::marker::Model;
 
-// Counts one more.
+/// Counts one more.
 pub fn raise(count: &mut u64)
     ensures more { count.new ≡ one_more count.old }
     ensures later { count.old ≤ count.new }
@@ -27,13 +27,14 @@ impl Model for Picks {
 }
 
 impl Picks {
+    /// The calls of these indices, counted from 0, are picked.
     pub fn new(indices: Vec<u64>) -> Picks
         ensures { result ≡ picks indices.items }
     {
         Picks { indices, calls: 0 }
     }
 
-    // Counts a call and says whether it is picked.
+    /// Counts a call and says whether it is picked.
     pub fn call(&mut self) -> bool
         ensures picked { result ≡ is_next self.old }
         ensures counted { self.new ≡ after_call self.old }
@@ -43,7 +44,7 @@ impl Picks {
         picked
     }
 
-    // Counts calls until one is picked, at most so many, and says how many came before that one.
+    /// Counts calls until one is picked, at most so many, and says how many came before that one.
     #[tactic(auto, using(crate::proofs::PieceLaws::calls))]
     pub fn call_until(&mut self, most: usize) -> usize
         ensures before { result ≡ unpicked most self.old }

@@ -24,6 +24,7 @@ impl Model for Course {
 }
 
 impl Course {
+    /// Calls of the first indices fail, and of the others that do not fail those of the second find nothing.
     pub fn new(failing: Vec<u64>, quiet: Vec<u64>) -> Course
         ensures { result ≡ course failing.items quiet.items }
     {
@@ -36,7 +37,7 @@ impl Course {
         }
     }
 
-    // Counts a call, and says whether it fails, which counts as a fault.
+    /// Counts a call, and says whether it fails, which counts as a fault.
     pub fn fails(&mut self) -> bool
         ensures picked { result ≡ is_next self.old.failing }
         ensures fault { HasCause self.old.faults self.new.faults (IsTrue result) }
@@ -49,7 +50,7 @@ impl Course {
         picked
     }
 
-    // Counts a call that does not fail, and says whether it finds nothing for now, which is counted.
+    /// Counts a call that does not fail, and says whether it finds nothing for now, which is counted.
     pub fn is_quiet(&mut self) -> bool
         ensures picked { result ≡ is_next self.old.quiet }
         ensures fault { HasCause self.old.quiets self.new.quiets (IsTrue result) }
@@ -62,7 +63,7 @@ impl Course {
         picked
     }
 
-    // Counts a fault.
+    /// Counts a fault.
     pub fn fault(&mut self)
         ensures later { self.old.faults ≤ self.new.faults }
         ensures more { self.new ≡ record self.old { faults = one_more self.old.faults } }
@@ -70,7 +71,7 @@ impl Course {
         raise(&mut self.faults);
     }
 
-    // Counts an end.
+    /// Counts an end.
     pub fn end(&mut self)
         ensures later { self.old.ends ≤ self.new.ends }
         ensures more { self.new ≡ record self.old { ends = one_more self.old.ends } }

@@ -23,6 +23,7 @@ impl Model for Pieces {
 }
 
 impl Pieces {
+    /// These bytes, read in pieces of at most so many.
     pub fn new(bytes: Vec<u8>, piece: usize) -> Pieces
         requires { 0 < piece }
         ensures { result ≡ record { left = bytes.items; piece = piece } }
@@ -34,7 +35,7 @@ impl Pieces {
         }
     }
 
-    // Moves the next bytes into the front of the buffer, as many as it takes and the piece allows, and says how many; 0 is the end.
+    /// Moves the next bytes into the front of the buffer, as many as it takes and the piece allows, and says how many; 0 is the end.
     pub fn read_into(&mut self, buf: &mut [u8]) -> usize
         requires { 0 < length buf.old }
         ensures fits { result ≤ length buf.new }
@@ -68,6 +69,7 @@ impl Model for Store {
 }
 
 impl Store {
+    /// A store with room for so many bytes; refused for memory alone.
     pub fn new(alloc: Global, room: usize) -> Result<Store, AllocError>
         ensures { IfOk result (λ s. s ≡ record { sent = []; room = room }) }
     {
@@ -77,13 +79,14 @@ impl Store {
         })
     }
 
+    /// The bytes that were added, in order.
     pub fn bytes(&self) -> &[u8]
         ensures { result.now ≡ self.now.sent }
     {
         &self.bytes
     }
 
-    // How many bytes there is still room for.
+    /// How many bytes there is still room for.
     pub fn left(&self) -> usize
         ensures is { result ≡ self.now.room - length self.now.sent }
         ensures all { length self.now.sent + result ≡ self.now.room }
@@ -91,7 +94,7 @@ impl Store {
         self.room - self.bytes.len()
     }
 
-    // Adds the bytes, or as many as there is room for.
+    /// Adds the bytes, or as many as there is room for.
     pub fn add(&mut self, bytes: &[u8]) -> Sent
         ensures added { self.new.sent ≡ self.old.sent ++ take (self.old.room - length self.old.sent) bytes.now }
         ensures full { (result ≡ Sent.Failed) ↔ (self.old.room < length self.old.sent + length bytes.now) }

@@ -23,6 +23,7 @@ impl Model for ListClock {
 }
 
 impl ListClock {
+    /// A clock that tells these moments in order, and then the last one again; 0 where there is none. In nanoseconds.
     pub fn new(moments: Vec<u64>) -> ListClock
         ensures { result ≡ record { coming = moments.items; last = 0 } }
     {

@@ -25,6 +25,7 @@ impl Model for MemoryNet {
 }
 
 impl MemoryNet {
+    /// A net that accepts these links and opens these ports in order; its calls with these indices fail or find nothing.
     pub fn new(
         links: Vec<MemoryLink>,
         ports: Vec<MemoryPorts>,

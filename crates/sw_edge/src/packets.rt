@@ -22,6 +22,7 @@ impl Model for Arrival {
 }
 
 impl Arrival {
+    /// A packet of at most 9,216 bytes that comes in at a port of 0 to 510.
     pub fn new(port: u16, bytes: Vec<u8>) -> Arrival
         requires port { port ≤ MAX_PORT }
         requires length { length bytes.items ≤ MAX_PACKET }
@@ -30,6 +31,7 @@ impl Arrival {
         Arrival { port, bytes }
     }
 
+    /// The port at which the packet comes in, 0 to 510.
     pub fn port(&self) -> u16
         ensures is { result ≡ self.now.0 }
         ensures bound { result ≤ MAX_PORT }
@@ -37,6 +39,7 @@ impl Arrival {
         self.port
     }
 
+    /// The bytes of the packet, at most 9,216.
     pub fn bytes(&self) -> &[u8]
         ensures are { result.now ≡ self.now.1 }
         ensures bound { length result.now ≤ MAX_PACKET }
@@ -59,12 +62,14 @@ impl Model for Departure {
 }
 
 impl Departure {
+    /// The port at which the packet leaves.
     pub fn port(&self) -> u16
         ensures { result ≡ self.now.0 }
     {
         self.port
     }
 
+    /// The bytes of the packet, at most 10,240.
     pub fn bytes(&self) -> &[u8]
         ensures { result.now ≡ self.now.1 }
     {
@@ -81,12 +86,14 @@ pub struct Blank {
 }
 
 impl Blank {
+    /// An output that has room for the longest packet, 10,240 bytes; refused for memory alone.
     pub fn new(alloc: Global) -> Result<Blank, AllocError> {
         Ok(Blank {
             bytes: Vec::with_capacity(alloc, MAX_OUTPUT)?,
         })
     }
 
+    /// The packet of these bytes, at most 10,240, which leaves at this port.
     pub fn fill(self, port: u16, bytes: &[u8]) -> Departure
         requires { length bytes.now ≤ MAX_OUTPUT }
         ensures { result ≡ (port, bytes.now) }

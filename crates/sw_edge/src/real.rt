@@ -29,6 +29,7 @@ impl<R> Model for RealSource<R> {
 }
 
 impl<R> RealSource<R> {
+    /// A source over a reader, with no fault and no end told.
     pub fn new(reader: R) -> RealSource<R>
         ensures stream { result.stream ≡ reader }
         ensures faults { result.faults ≡ 0 }
@@ -103,6 +104,7 @@ impl<W> Model for RealSink<W> {
 }
 
 impl<W> RealSink<W> {
+    /// A sink over a writer, with no fault counted.
     pub fn new(writer: W) -> RealSink<W>
         ensures stream { result.stream ≡ writer }
         ensures faults { result.faults ≡ 0 }
@@ -170,6 +172,7 @@ impl<C> Model for RealClock<C> {
 }
 
 impl<C> RealClock<C> {
+    /// A clock over one of the system's, whose moments never fall.
     pub fn new(clock: C) -> RealClock<C>
         ensures clock { result.clock ≡ clock }
         ensures last { result.last ≡ 0 }

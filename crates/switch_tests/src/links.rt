@@ -31,6 +31,7 @@ pub struct WaitingLink<'a, W> {
 }
 
 impl<'a, W> WaitingLink<'a, W> {
+    /// A link that waits on the stage for its own place, and lets the other go on.
     pub fn new(
         rt: &'a W,
         stage: &'a Stage,

@@ -31,6 +31,7 @@ pub struct ScriptNet<'a, W> {
 }
 
 impl<'a, W> ScriptNet<'a, W> {
+    /// A net whose links play these scripts, and whose ports bring so many packets.
     pub fn new(
         rt: &'a W,
         stage: &'a Stage,

@@ -18,6 +18,7 @@ pub struct FewPorts<'a> {
 }
 
 impl<'a> FewPorts<'a> {
+    /// Ports that bring so many packets, each the same.
     pub fn new(stage: &'a Stage, packets: u64) -> FewPorts<'a> {
         FewPorts {
             stage,

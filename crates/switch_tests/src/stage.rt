@@ -69,6 +69,7 @@ impl Drop for Stage {
 }
 
 impl Stage {
+    /// A stage on which nobody waits.
     pub fn new(alloc: Global) -> Stage {
         Stage {
             first: Place::new(alloc),
@@ -83,6 +84,7 @@ impl Stage {
         self.packets.fetch_add(1, Ordering::SeqCst);
     }
 
+    /// How many packets were taken so far.
     pub fn packets(&self) -> u64 {
         self.packets.load(Ordering::SeqCst)
     }
@@ -92,6 +94,7 @@ impl Stage {
         self.gave_up.store(true, Ordering::SeqCst);
     }
 
+    /// Whether a link or ports waited in vain.
     pub fn gave_up(&self) -> bool {
         self.gave_up.load(Ordering::SeqCst)
     }

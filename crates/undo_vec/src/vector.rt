@@ -72,12 +72,14 @@ impl<T: Drop> UndoVec<T> {
         }
     }
 
+    /// The items as they are now, in order.
     pub fn as_slice(&self) -> &[T]
         ensures { result.now ≡ self.now.items }
     {
         self.items.as_slice()
     }
 
+    /// How many items there are now.
     pub fn len(&self) -> usize
         ensures { result ≡ length self.now.items }
     {

@@ -16,6 +16,7 @@ pub struct Sight {
 }
 
 impl Sight {
+    /// What looks at packets of these loads, with the memory of a run; refused for memory alone.
     pub fn open(alloc: Global, loads: Vec<Load>) -> Result<Sight, NoMemory> {
         match memory_of_run(alloc) {
             Ok((scratch, verdict)) => Ok(Sight {
