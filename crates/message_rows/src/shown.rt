@@ -1,6 +1,7 @@
 //! Entities, as they are read.
 use p4_types::messages::{
-    Action, CounterData, Entity, FieldMatch, FieldMatchKind, TableAction, TableEntry,
+    Action, CounterData, Entity, FieldMatch, FieldMatchKind, MulticastGroupEntry, TableAction,
+    TableEntry,
 };
 use row_lines::{say, tell, tell_hex};
 use std::alloc::Global;
@@ -72,6 +73,18 @@ fn tell_figures(told: &mut String, figures: &Option<CounterData>) {
     }
 }
 
+fn tell_replicas(told: &mut String, group: &Option<MulticastGroupEntry>) {
+    match group {
+        None => say(told, "replication of no group"),
+        Some(group) => {
+            tell_number(told, "multicast group", group.multicast_group_id);
+            for replica in group.replicas.as_slice() {
+                tell(told, (replica.egress_port, replica.instance));
+            }
+        }
+    }
+}
+
 fn tell_entry(alloc: Global, told: &mut String, entry: &TableEntry) {
     tell_number(told, "entry", entry.table_id);
     tell(told, entry.priority);
@@ -116,6 +129,9 @@ pub fn tell_entity(alloc: Global, told: &mut String, entity: &Option<Entity>) {
         Some(Entity::DigestEntry(digest)) => {
             tell_number(told, "digest", digest.digest_id);
             tell(told, digest.config.max_list_size);
+        }
+        Some(Entity::PacketReplicationEngineEntry(entry)) => {
+            tell_replicas(told, &entry.multicast_group_entry)
         }
         Some(Entity::Other(number)) => tell_number(told, "entity", *number),
     }

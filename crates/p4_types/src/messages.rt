@@ -35,8 +35,7 @@ pub enum Entity {
     ActionProfileGroup(ActionProfileGroup),
     CounterEntry(CounterEntry),
     DirectCounterEntry(DirectCounterEntry),
-    /// An entry of the packet replication engine: a multicast group, or none where another choice is given.
-    PacketReplicationEngineEntry(Option<MulticastGroupEntry>),
+    PacketReplicationEngineEntry(PacketReplicationEngineEntry),
     DigestEntry(DigestEntry),
     /// An entity that is not served, by the number of its field.
     Other(u32),
@@ -153,6 +152,12 @@ pub struct CounterEntry {
 pub struct DirectCounterEntry {
     pub table_entry: Option<TableEntry>,
     pub content: Option<CounterData>,
+}
+
+/// An entry of the packet replication engine. Another choice than a multicast group is passed over.
+#[derive(Drop)]
+pub struct PacketReplicationEngineEntry {
+    pub multicast_group_entry: Option<MulticastGroupEntry>,
 }
 
 /// A group of ports to which a packet is copied.

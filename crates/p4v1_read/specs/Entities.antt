@@ -15,7 +15,10 @@ use Rattle.p4_types.specs.declared.messages.FieldMatch.{FieldMatch}
 use Rattle.p4_types.specs.declared.messages.FieldMatchKind.{FieldMatchKind}
 use Rattle.p4_types.specs.declared.messages.Index.{Index}
 use Rattle.p4_types.specs.declared.messages.Member.{Member}
+use Rattle.p4_types.specs.declared.messages.MulticastGroupEntry.{MulticastGroupEntry}
+use Rattle.p4_types.specs.declared.messages.PacketReplicationEngineEntry.{PacketReplicationEngineEntry}
 use Rattle.p4_types.specs.declared.messages.Param.{Param}
+use Rattle.p4_types.specs.declared.messages.Replica.{Replica}
 use Rattle.p4_types.specs.declared.messages.TableAction.{TableAction}
 use Rattle.p4_types.specs.declared.messages.TableEntry.{TableEntry}
 use Rattle.p4_types.specs.declared.messages.Entity.TheVariants as entities
@@ -189,6 +192,26 @@ direct_counter_entry_of fields = do
   content ← one_at counter_data_of 2 fields
   Some (record { table_entry = table_entry; content = content })
 
+-- Replica
+unfoldable pub replica_of : List WireField → Option Replica
+replica_of fields = do
+  egress_port ← uint32_at 1 fields
+  instance ← uint32_at 2 fields
+  Some (record { egress_port = egress_port; instance = instance })
+
+-- MulticastGroupEntry
+unfoldable pub multicast_group_of : List WireField → Option MulticastGroupEntry
+multicast_group_of fields = do
+  multicast_group_id ← uint32_at 1 fields
+  replicas ← all_at replica_of 2 fields
+  Some (record { multicast_group_id = multicast_group_id; replicas = replicas })
+
+-- PacketReplicationEngineEntry
+unfoldable pub replication_entry_of : List WireField → Option PacketReplicationEngineEntry
+replication_entry_of fields = do
+  multicast_group_entry ← one_at multicast_group_of 1 fields
+  Some (record { multicast_group_entry = multicast_group_entry })
+
 -- DigestEntry.Config
 unfoldable pub digest_config_of : List WireField → Option DigestConfig
 digest_config_of fields = do
@@ -216,6 +239,7 @@ entity_by fields member =
     if member == 4 then option_map entities.ActionProfileGroup (member_at profile_group_of 4 fields) else
     if member == 7 then option_map entities.CounterEntry (member_at counter_entry_of 7 fields) else
     if member == 8 then option_map entities.DirectCounterEntry (member_at direct_counter_entry_of 8 fields) else
+    if member == 9 then option_map entities.PacketReplicationEngineEntry (member_at replication_entry_of 9 fields) else
     if member == 12 then option_map entities.DigestEntry (member_at digest_entry_of 12 fields) else
     option_map (λ _. entities.Other member) (message_at member fields)
 

@@ -1,6 +1,6 @@
 //! Entities, each read by the fields of its message.
 ghost use Rattle.std.specs.Prelude.{◌≡◌, [], ◌∷◌};
-ghost use Rattle.p4v1_read.specs.Entities.{param_of, action_of, exact_of, ternary_of, lpm_of, range_of, optional_of, kind_by, kind_of, field_match_of, profile_action_of, action_set_of, table_action_by, table_action_of, counter_data_of, table_entry_of, profile_member_of, group_member_of, profile_group_of, index_of, counter_entry_of, direct_counter_entry_of, digest_config_of, digest_entry_of, entity_by, entity_of};
+ghost use Rattle.p4v1_read.specs.Entities.{param_of, action_of, exact_of, ternary_of, lpm_of, range_of, optional_of, kind_by, kind_of, field_match_of, profile_action_of, action_set_of, table_action_by, table_action_of, counter_data_of, table_entry_of, profile_member_of, group_member_of, profile_group_of, index_of, counter_entry_of, direct_counter_entry_of, replica_of, multicast_group_of, replication_entry_of, digest_config_of, digest_entry_of, entity_by, entity_of};
 ghost use Rattle.wire_messages.specs.Answers.{ReadsInMemory};
 ghost use Rattle.p4v1_read.specs.Nested.{member_at};
 
@@ -10,7 +10,8 @@ use list_types::Refusal;
 use p4_types::messages::{
     Action, ActionProfileAction, ActionProfileActionSet, ActionProfileGroup, ActionProfileMember,
     CounterData, CounterEntry, DigestConfig, DigestEntry, DirectCounterEntry, Entity, FieldMatch,
-    FieldMatchKind, Index, Member, Param, TableAction, TableEntry,
+    FieldMatchKind, Index, Member, MulticastGroupEntry, PacketReplicationEngineEntry, Param, Replica,
+    TableAction, TableEntry,
 };
 use std::alloc::Global;
 use wire_messages::{Message, Unreadable};
@@ -337,6 +338,52 @@ impl Readable for DirectCounterEntry {
     }
 }
 
+impl Readable for Replica {
+    ghost meaning = { replica_of };
+
+    #[tactic(auto, unfolding(crate::specs::Entities::replica_of))]
+    fn read(alloc: Global, message: &Message<'_>) -> Result<Replica, Refusal<Unreadable>> {
+        let egress_port = message.uint32(1)?;
+        let instance = message.uint32(2)?;
+        Ok(Replica {
+            egress_port,
+            instance,
+        })
+    }
+}
+
+impl Readable for MulticastGroupEntry {
+    ghost meaning = { multicast_group_of };
+
+    #[tactic(auto, unfolding(crate::specs::Entities::multicast_group_of))]
+    fn read(
+        alloc: Global,
+        message: &Message<'_>,
+    ) -> Result<MulticastGroupEntry, Refusal<Unreadable>> {
+        let multicast_group_id = message.uint32(1)?;
+        let replicas = reading::all(alloc, message, 2)?;
+        Ok(MulticastGroupEntry {
+            multicast_group_id,
+            replicas,
+        })
+    }
+}
+
+impl Readable for PacketReplicationEngineEntry {
+    ghost meaning = { replication_entry_of };
+
+    #[tactic(auto, unfolding(crate::specs::Entities::replication_entry_of))]
+    fn read(
+        alloc: Global,
+        message: &Message<'_>,
+    ) -> Result<PacketReplicationEngineEntry, Refusal<Unreadable>> {
+        let multicast_group_entry = reading::one(alloc, message, 1)?;
+        Ok(PacketReplicationEngineEntry {
+            multicast_group_entry,
+        })
+    }
+}
+
 impl Readable for DigestConfig {
     ghost meaning = { digest_config_of };
 
@@ -380,6 +427,9 @@ fn entity(alloc: Global, message: &Message<'_>, member: u32) -> Result<Entity, R
         4 => Ok(Entity::ActionProfileGroup(reading::member(alloc, message, 4)?)),
         7 => Ok(Entity::CounterEntry(reading::member(alloc, message, 7)?)),
         8 => Ok(Entity::DirectCounterEntry(reading::member(alloc, message, 8)?)),
+        9 => Ok(Entity::PacketReplicationEngineEntry(reading::member(
+            alloc, message, 9,
+        )?)),
         12 => Ok(Entity::DigestEntry(reading::member(alloc, message, 12)?)),
         _ => {
             message.message(member)?;

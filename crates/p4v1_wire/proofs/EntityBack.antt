@@ -15,7 +15,10 @@ use Rattle.p4_types.specs.declared.messages.Entity.{Entity}
 use Rattle.p4_types.specs.declared.messages.FieldMatchKind.{FieldMatchKind}
 use Rattle.p4_types.specs.declared.messages.Index.{Index}
 use Rattle.p4_types.specs.declared.messages.Member.{Member}
+use Rattle.p4_types.specs.declared.messages.MulticastGroupEntry.{MulticastGroupEntry}
+use Rattle.p4_types.specs.declared.messages.PacketReplicationEngineEntry.{PacketReplicationEngineEntry}
 use Rattle.p4_types.specs.declared.messages.Param.{Param}
+use Rattle.p4_types.specs.declared.messages.Replica.{Replica}
 use Rattle.p4_types.specs.declared.messages.TableAction.{TableAction}
 use Rattle.p4_types.specs.declared.messages.TableEntry.{TableEntry}
 use Rattle.wire_fields.specs.Laws.{CanBeWritten}
@@ -26,14 +29,14 @@ use Rattle.wire_messages.specs.Written.{Uint32, Message, payloads, Row, row, wri
 use Rattle.wire_messages.proofs.CanWrite.{rows_can_be_written}
 use Rattle.wire_messages.proofs.ReadBack.{uint32_back, uint64_back, int32_back, int64_back, flag_back, bytes_back, chosen_uint32_back, choice_back}
 use Rattle.p4v1_read.specs.Nested.{one_at}
-use Rattle.p4v1_read.specs.Entities.{param_of, action_of, field_match_of, profile_action_of, action_set_of, counter_data_of, table_entry_of, profile_member_of, group_member_of, profile_group_of, index_of, counter_entry_of, direct_counter_entry_of, digest_config_of, digest_entry_of, table_action_of, entity_of}
+use Rattle.p4v1_read.specs.Entities.{param_of, action_of, field_match_of, profile_action_of, action_set_of, counter_data_of, table_entry_of, profile_member_of, group_member_of, profile_group_of, index_of, counter_entry_of, direct_counter_entry_of, replica_of, multicast_group_of, replication_entry_of, digest_config_of, digest_entry_of, table_action_of, entity_of}
 use Rattle.p4_types.specs.declared.messages.FieldMatchKind.TheVariants as kinds
 use Rattle.p4_types.specs.declared.messages.TableAction.TheVariants as actions
 use Rattle.p4_types.specs.declared.messages.Entity.TheVariants as entities
 use Rattle.std.proofs.Common.{ℤ}
 use Rattle.wire_messages.specs.Written.{IsInt32}
 use Rattle.p4v1_read.specs.Entities.{exact_of, ternary_of, lpm_of, range_of, optional_of, kind_by, kind_of, table_action_by, entity_by, no_digest_config}
-use Rattle.p4v1_wire.specs.EntityRows.{param_rows, action_rows, field_match_rows, profile_action_rows, action_set_rows, counter_data_rows, table_entry_rows, profile_member_rows, group_member_rows, profile_group_rows, index_rows, counter_entry_rows, direct_counter_entry_rows, digest_config_rows, digest_entry_rows, kind_rows, kind_choice_rows, table_action_rows, entity_rows, ParamInRange, ActionInRange, FieldMatchInRange, ProfileActionInRange, ActionSetInRange, CounterDataInRange, TableEntryInRange, ProfileMemberInRange, GroupMemberInRange, ProfileGroupInRange, IndexInRange, CounterEntryInRange, DirectCounterEntryInRange, DigestConfigInRange, DigestEntryInRange, KindInRange, TableActionInRange, EntityInRange}
+use Rattle.p4v1_wire.specs.EntityRows.{param_rows, action_rows, field_match_rows, profile_action_rows, action_set_rows, counter_data_rows, table_entry_rows, profile_member_rows, group_member_rows, profile_group_rows, index_rows, counter_entry_rows, direct_counter_entry_rows, replica_rows, multicast_group_rows, replication_entry_rows, digest_config_rows, digest_entry_rows, kind_rows, kind_choice_rows, table_action_rows, entity_rows, ParamInRange, ActionInRange, FieldMatchInRange, ProfileActionInRange, ActionSetInRange, CounterDataInRange, TableEntryInRange, ProfileMemberInRange, GroupMemberInRange, ProfileGroupInRange, IndexInRange, CounterEntryInRange, DirectCounterEntryInRange, DigestConfigInRange, DigestEntryInRange, ReplicaInRange, MulticastGroupInRange, ReplicationEntryInRange, KindInRange, TableActionInRange, EntityInRange}
 use Rattle.p4v1_wire.specs.Rows.{fields_by}
 use Rattle.p4v1_wire.specs.ReadBack.{IsReadBack, itself}
 use Rattle.p4v1_wire.specs.Counted.{profile_action_counted, action_set_counted, table_action_counted, table_entry_counted, profile_member_counted, counter_entry_counted, direct_counter_entry_counted, entity_counted}
@@ -376,6 +379,53 @@ pub direct_counter_entry_back : IsReadBack direct_counter_entry_of direct_counte
 unfolding DirectCounterEntryInRange
 direct_counter_entry_back m fits short = read_from direct_counter_entry_of (direct_counter_entry_rows m) (direct_counter_entry_counted m) (rising_direct_counter_entry m) fits.0 short (direct_counter_entry_says m fits short)
 
+rising_replica : (m : Replica) → IsTrue (rising (replica_rows m))
+unfolding replica_rows
+rising_replica m = refl
+
+replica_says : (m : Replica) → ReplicaInRange m → length (spelling (fields_by replica_rows m)) < 2 ^ 64 → replica_of (fields_by replica_rows m) ≡ Some m
+unfolding replica_of replica_rows ReplicaInRange
+replica_says m fits short =
+    let rows = replica_rows m in
+    rw (uint32_back 1 rows m.egress_port refl refl fits.0, uint32_back 2 rows m.instance refl refl fits.1.0) refl
+
+pub replica_back : IsReadBack replica_of replica_rows ReplicaInRange itself
+unfolding ReplicaInRange
+replica_back m fits short = read_from replica_of (replica_rows m) (m) (rising_replica m) fits short (replica_says m fits short)
+
+rising_multicast_group : (m : MulticastGroupEntry) → IsTrue (rising (multicast_group_rows m))
+unfolding multicast_group_rows
+rising_multicast_group m = refl
+
+multicast_group_says : (m : MulticastGroupEntry) → MulticastGroupInRange m → length (spelling (fields_by multicast_group_rows m)) < 2 ^ 64 → multicast_group_of (fields_by multicast_group_rows m) ≡ Some m
+unfolding multicast_group_of multicast_group_rows MulticastGroupInRange
+multicast_group_says m fits short =
+    let rows = multicast_group_rows m in
+    let whole = rows_can_be_written rows refl fits.0 short in
+    rw (
+      uint32_back 1 rows m.multicast_group_id refl refl fits.0.0,
+      all_same replica_of 2 rows replica_rows ReplicaInRange m.replicas refl refl whole fits.1 replica_back,
+    ) refl
+
+pub multicast_group_back : IsReadBack multicast_group_of multicast_group_rows MulticastGroupInRange itself
+unfolding MulticastGroupInRange
+multicast_group_back m fits short = read_from multicast_group_of (multicast_group_rows m) (m) (rising_multicast_group m) fits.0 short (multicast_group_says m fits short)
+
+rising_replication_entry : (m : PacketReplicationEngineEntry) → IsTrue (rising (replication_entry_rows m))
+unfolding replication_entry_rows
+rising_replication_entry m = refl
+
+replication_entry_says : (m : PacketReplicationEngineEntry) → ReplicationEntryInRange m → length (spelling (fields_by replication_entry_rows m)) < 2 ^ 64 → replication_entry_of (fields_by replication_entry_rows m) ≡ Some m
+unfolding replication_entry_of replication_entry_rows ReplicationEntryInRange
+replication_entry_says m fits short =
+    let rows = replication_entry_rows m in
+    let whole = rows_can_be_written rows refl fits.0 short in
+    rw (given_same multicast_group_of 1 rows multicast_group_rows MulticastGroupInRange m.multicast_group_entry refl refl whole fits.1 multicast_group_back) refl
+
+pub replication_entry_back : IsReadBack replication_entry_of replication_entry_rows ReplicationEntryInRange itself
+unfolding ReplicationEntryInRange
+replication_entry_back m fits short = read_from replication_entry_of (replication_entry_rows m) (m) (rising_replication_entry m) fits.0 short (replication_entry_says m fits short)
+
 rising_digest_config : (m : DigestConfig) → IsTrue (rising (digest_config_rows m))
 unfolding digest_config_rows
 rising_digest_config m = refl
@@ -453,6 +503,9 @@ entity_says (entities.CounterEntry m) fits whole =
 entity_says (entities.DirectCounterEntry m) fits whole =
     let rows = entity_rows (entities.DirectCounterEntry m) in
     rw (choice_back (1 ∷ 2 ∷ 3 ∷ 4 ∷ 5 ∷ 6 ∷ 7 ∷ 8 ∷ 9 ∷ 10 ∷ 11 ∷ 12 ∷ []) rows refl, member_back direct_counter_entry_of 8 rows direct_counter_entry_rows DirectCounterEntryInRange direct_counter_entry_counted m refl refl whole fits direct_counter_entry_back) refl
+entity_says (entities.PacketReplicationEngineEntry m) fits whole =
+    let rows = entity_rows (entities.PacketReplicationEngineEntry m) in
+    rw (choice_back (1 ∷ 2 ∷ 3 ∷ 4 ∷ 5 ∷ 6 ∷ 7 ∷ 8 ∷ 9 ∷ 10 ∷ 11 ∷ 12 ∷ []) rows refl, member_back replication_entry_of 9 rows replication_entry_rows ReplicationEntryInRange itself m refl refl whole fits replication_entry_back) refl
 entity_says (entities.DigestEntry m) fits whole =
     let rows = entity_rows (entities.DigestEntry m) in
     rw (choice_back (1 ∷ 2 ∷ 3 ∷ 4 ∷ 5 ∷ 6 ∷ 7 ∷ 8 ∷ 9 ∷ 10 ∷ 11 ∷ 12 ∷ []) rows refl, member_back digest_entry_of 12 rows digest_entry_rows DigestEntryInRange itself m refl refl whole fits digest_entry_back) refl
@@ -465,6 +518,7 @@ rising_entity (entities.ActionProfileMember m) = refl
 rising_entity (entities.ActionProfileGroup m) = refl
 rising_entity (entities.CounterEntry m) = refl
 rising_entity (entities.DirectCounterEntry m) = refl
+rising_entity (entities.PacketReplicationEngineEntry m) = refl
 rising_entity (entities.DigestEntry m) = refl
 rising_entity (entities.Other member) = refl
 
@@ -475,6 +529,7 @@ entity_in_range (entities.ActionProfileMember m) = (tt, tt)
 entity_in_range (entities.ActionProfileGroup m) = (tt, tt)
 entity_in_range (entities.CounterEntry m) = (tt, tt)
 entity_in_range (entities.DirectCounterEntry m) = (tt, tt)
+entity_in_range (entities.PacketReplicationEngineEntry m) = (tt, tt)
 entity_in_range (entities.DigestEntry m) = (tt, tt)
 entity_in_range (entities.Other member) = tt
 

@@ -65,6 +65,7 @@ entity_counted (entities.ActionProfileMember m) = Some (entities.ActionProfileMe
 entity_counted (entities.ActionProfileGroup m) = Some (entities.ActionProfileGroup m)
 entity_counted (entities.CounterEntry m) = Some (entities.CounterEntry (counter_entry_counted m))
 entity_counted (entities.DirectCounterEntry m) = Some (entities.DirectCounterEntry (direct_counter_entry_counted m))
+entity_counted (entities.PacketReplicationEngineEntry m) = Some (entities.PacketReplicationEngineEntry m)
 entity_counted (entities.DigestEntry m) = Some (entities.DigestEntry m)
 entity_counted (entities.Other member) = None
 

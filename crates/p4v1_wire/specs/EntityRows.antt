@@ -16,7 +16,10 @@ use Rattle.p4_types.specs.declared.messages.FieldMatch.{FieldMatch}
 use Rattle.p4_types.specs.declared.messages.FieldMatchKind.{FieldMatchKind}
 use Rattle.p4_types.specs.declared.messages.Index.{Index}
 use Rattle.p4_types.specs.declared.messages.Member.{Member}
+use Rattle.p4_types.specs.declared.messages.MulticastGroupEntry.{MulticastGroupEntry}
+use Rattle.p4_types.specs.declared.messages.PacketReplicationEngineEntry.{PacketReplicationEngineEntry}
 use Rattle.p4_types.specs.declared.messages.Param.{Param}
+use Rattle.p4_types.specs.declared.messages.Replica.{Replica}
 use Rattle.p4_types.specs.declared.messages.TableAction.{TableAction}
 use Rattle.p4_types.specs.declared.messages.TableEntry.{TableEntry}
 use Rattle.p4_types.specs.declared.messages.FieldMatchKind.TheVariants as kinds
@@ -226,6 +229,38 @@ direct_counter_entry_rows m =
 unfoldable pub DirectCounterEntryInRange : DirectCounterEntry → Type 0
 DirectCounterEntryInRange m = RowsInRange (direct_counter_entry_rows m) × IfSome m.table_entry TableEntryInRange × IfSome m.content CounterDataInRange
 
+-- Replica
+unfoldable pub replica_rows : Replica → List Row
+replica_rows m =
+    row 1 (Uint32 m.egress_port) ∷
+    row 2 (Uint32 m.instance) ∷
+    []
+
+-- its numbers and texts are in the ranges of their types
+unfoldable pub ReplicaInRange : Replica → Type 0
+ReplicaInRange m = RowsInRange (replica_rows m)
+
+-- MulticastGroupEntry
+unfoldable pub multicast_group_rows : MulticastGroupEntry → List Row
+multicast_group_rows m =
+    row 1 (Uint32 m.multicast_group_id) ∷
+    row 2 (Messages (map (fields_by replica_rows) m.replicas)) ∷
+    []
+
+-- its numbers and texts are in the ranges of their types
+unfoldable pub MulticastGroupInRange : MulticastGroupEntry → Type 0
+MulticastGroupInRange m = RowsInRange (multicast_group_rows m) × All ReplicaInRange m.replicas
+
+-- PacketReplicationEngineEntry, a choice of which a multicast group alone is written
+unfoldable pub replication_entry_rows : PacketReplicationEngineEntry → List Row
+replication_entry_rows m =
+    row 1 (Present (option_map (fields_by multicast_group_rows) m.multicast_group_entry)) ∷
+    []
+
+-- its numbers and texts are in the ranges of their types
+unfoldable pub ReplicationEntryInRange : PacketReplicationEngineEntry → Type 0
+ReplicationEntryInRange m = RowsInRange (replication_entry_rows m) × IfSome m.multicast_group_entry MulticastGroupInRange
+
 -- DigestEntry.Config
 unfoldable pub digest_config_rows : DigestConfig → List Row
 digest_config_rows m =
@@ -256,6 +291,7 @@ entity_rows (entities.ActionProfileMember m) = row 3 (Present (Some (fields_by p
 entity_rows (entities.ActionProfileGroup m) = row 4 (Present (Some (fields_by profile_group_rows m))) ∷ []
 entity_rows (entities.CounterEntry m) = row 7 (Present (Some (fields_by counter_entry_rows m))) ∷ []
 entity_rows (entities.DirectCounterEntry m) = row 8 (Present (Some (fields_by direct_counter_entry_rows m))) ∷ []
+entity_rows (entities.PacketReplicationEngineEntry m) = row 9 (Present (Some (fields_by replication_entry_rows m))) ∷ []
 entity_rows (entities.DigestEntry m) = row 12 (Present (Some (fields_by digest_entry_rows m))) ∷ []
 entity_rows (entities.Other member) = []
 
@@ -266,5 +302,6 @@ EntityInRange (entities.ActionProfileMember m) = ProfileMemberInRange m
 EntityInRange (entities.ActionProfileGroup m) = ProfileGroupInRange m
 EntityInRange (entities.CounterEntry m) = CounterEntryInRange m
 EntityInRange (entities.DirectCounterEntry m) = DirectCounterEntryInRange m
+EntityInRange (entities.PacketReplicationEngineEntry m) = ReplicationEntryInRange m
 EntityInRange (entities.DigestEntry m) = DigestEntryInRange m
 EntityInRange (entities.Other member) = Unit {0}

@@ -1,6 +1,6 @@
 //! Entities, each written by the rows of its message.
 ghost use Rattle.std.specs.Prelude.{◌≡◌};
-ghost use Rattle.p4v1_wire.specs.EntityRows.{ActionInRange, ActionSetInRange, CounterDataInRange, CounterEntryInRange, DigestConfigInRange, DigestEntryInRange, DirectCounterEntryInRange, EntityInRange, FieldMatchInRange, GroupMemberInRange, IndexInRange, KindChoiceInRange, KindInRange, ParamInRange, ProfileActionInRange, ProfileGroupInRange, ProfileMemberInRange, TableActionInRange, TableEntryInRange, action_rows, action_set_rows, counter_data_rows, counter_entry_rows, digest_config_rows, digest_entry_rows, direct_counter_entry_rows, entity_rows, field_match_rows, group_member_rows, index_rows, kind_choice_rows, kind_rows, param_rows, profile_action_rows, profile_group_rows, profile_member_rows, table_action_rows, table_entry_rows};
+ghost use Rattle.p4v1_wire.specs.EntityRows.{ActionInRange, ActionSetInRange, CounterDataInRange, CounterEntryInRange, DigestConfigInRange, DigestEntryInRange, DirectCounterEntryInRange, EntityInRange, FieldMatchInRange, GroupMemberInRange, IndexInRange, KindChoiceInRange, KindInRange, MulticastGroupInRange, ParamInRange, ProfileActionInRange, ProfileGroupInRange, ProfileMemberInRange, ReplicaInRange, ReplicationEntryInRange, TableActionInRange, TableEntryInRange, action_rows, action_set_rows, counter_data_rows, counter_entry_rows, digest_config_rows, digest_entry_rows, direct_counter_entry_rows, entity_rows, field_match_rows, group_member_rows, index_rows, kind_choice_rows, kind_rows, param_rows, profile_action_rows, profile_group_rows, profile_member_rows, table_action_rows, table_entry_rows, multicast_group_rows, replica_rows, replication_entry_rows};
 ghost use Rattle.std.specs.Prelude.{OnOk};
 ghost use Rattle.p4v1_wire.specs.EntityRows.{kind_member};
 ghost use Rattle.wire_messages.specs.Written.{with_rows};
@@ -11,7 +11,8 @@ use list_types::NoMemory;
 use p4_types::messages::{
     Action, ActionProfileAction, ActionProfileActionSet, ActionProfileGroup, ActionProfileMember,
     CounterData, CounterEntry, DigestConfig, DigestEntry, DirectCounterEntry, Entity, FieldMatch,
-    FieldMatchKind, Index, Member, Param, TableAction, TableEntry,
+    FieldMatchKind, Index, Member, MulticastGroupEntry, PacketReplicationEngineEntry, Param, Replica,
+    TableAction, TableEntry,
 };
 use std::alloc::Global;
 use wire_fields::Writer;
@@ -272,6 +273,44 @@ impl Writable for DirectCounterEntry {
     }
 }
 
+impl Writable for Replica {
+    ghost rows = { replica_rows };
+
+    ghost in_range = { ReplicaInRange };
+
+    #[tactic(auto, unfolding(crate::specs::EntityRows::replica_rows, crate::specs::EntityRows::ReplicaInRange))]
+    fn write(&self, alloc: Global, writer: &mut Writer) -> Result<(), NoMemory> {
+        write::uint32(writer, 1, self.egress_port)?;
+        write::uint32(writer, 2, self.instance)?;
+        Ok(())
+    }
+}
+
+impl Writable for MulticastGroupEntry {
+    ghost rows = { multicast_group_rows };
+
+    ghost in_range = { MulticastGroupInRange };
+
+    #[tactic(auto, unfolding(crate::specs::EntityRows::multicast_group_rows, crate::specs::EntityRows::MulticastGroupInRange))]
+    fn write(&self, alloc: Global, writer: &mut Writer) -> Result<(), NoMemory> {
+        write::uint32(writer, 1, self.multicast_group_id)?;
+        writing::messages(alloc, writer, 2, self.replicas.as_slice())?;
+        Ok(())
+    }
+}
+
+impl Writable for PacketReplicationEngineEntry {
+    ghost rows = { replication_entry_rows };
+
+    ghost in_range = { ReplicationEntryInRange };
+
+    #[tactic(auto, unfolding(crate::specs::EntityRows::replication_entry_rows, crate::specs::EntityRows::ReplicationEntryInRange))]
+    fn write(&self, alloc: Global, writer: &mut Writer) -> Result<(), NoMemory> {
+        writing::present(alloc, writer, 1, &self.multicast_group_entry)?;
+        Ok(())
+    }
+}
+
 impl Writable for DigestConfig {
     ghost rows = { digest_config_rows };
 
@@ -312,6 +351,9 @@ impl Writable for Entity {
             Entity::ActionProfileGroup(group) => writing::member(alloc, writer, 4, group),
             Entity::CounterEntry(entry) => writing::member(alloc, writer, 7, entry),
             Entity::DirectCounterEntry(entry) => writing::member(alloc, writer, 8, entry),
+            Entity::PacketReplicationEngineEntry(entry) => {
+                writing::member(alloc, writer, 9, entry)
+            }
             Entity::DigestEntry(entry) => writing::member(alloc, writer, 12, entry),
             Entity::Other(_) => Ok(()),
         }

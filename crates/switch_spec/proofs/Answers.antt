@@ -154,6 +154,7 @@ entity_available info (Some (entities.ActionProfileGroup x)) = id_available _
 entity_available info (Some (entities.CounterEntry x)) = id_available _
 entity_available info (Some (entities.DirectCounterEntry x)) = direct_available info x.table_entry
 entity_available info (Some (entities.DigestEntry x)) = id_available _
+entity_available info (Some (entities.PacketReplicationEngineEntry x)) = refl
 entity_available info (Some (entities.Other x)) = refl
 
 first_more : (o : Option Code) (others : List (Option Code)) → Available o → Available (first_of others) → Available (first_of (o ∷ others))
