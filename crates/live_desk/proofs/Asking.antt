@@ -15,7 +15,7 @@ use Rattle.packet_spec.specs.Meaning.{Verdict}
 use Rattle.pub_snap.specs.Snapshots.{steps_in}
 use Rattle.snap_worker.specs.Counting.{after_packet}
 use Rattle.switch_spec.specs.Meaning.{receiver}
-use Rattle.live_desk.specs.Sums.{HasLooked, reads}
+use Rattle.live_desk.specs.Sums.{HasLooked, reads_counters}
 use Rattle.snap_worker.specs.Sums.{AreSums, NotesOwn, noted_by}
 use Rattle.p4_types.specs.declared.records.Output.{Output}
 use Rattle.pub_snap.proofs.Listings.{begins_trans}
@@ -86,7 +86,7 @@ own_go_on call reply before after called =
 -- ---- A pass once it made a call
 
 seen_by : (call : Call) (slots next : ℕ) (figures : Option (List (ℕ × ℕ))) (worker : Working) → slots ≡ next → IfSome figures (λ loaded. AreSums loaded (noted_by worker.seat))
-    → IfSome figures (λ loaded. NotesOwn (length loaded) worker.seat) → IfSome figures (λ loaded. reads call ≡ true → length loaded ≡ slots) → HasSeen call next figures worker
+    → IfSome figures (λ loaded. NotesOwn (length loaded) worker.seat) → IfSome figures (λ loaded. reads_counters call ≡ true → length loaded ≡ slots) → HasSeen call next figures worker
 seen_by call slots next None worker is sums own drawn = tt
 seen_by call slots next (Some loaded) worker is sums own drawn = (sums, own, λ asks. drawn asks ∙ is)
 
@@ -97,7 +97,7 @@ with_told worker told = record worker { told = told }
 pub called : (call : Call) (reply : Reply) (lane : ℕ) (entries more : List CallSteps) (last base told : Beginning) (worker looked after : Working) (waiting : List Output) (slots : ℕ) (figures : Option (List (ℕ × ℕ)))
     → Begins worker.told base → Begins last worker.told → IsCounted lane last.events entries → IsCounted lane base.events entries → IsMade lane (raised (length entries) 1) call figures base reply told
     → Begins base told → length more ≡ length entries + 1 → HasLooked worker looked → IfSome figures (λ loaded. AreSums loaded (noted_by looked.seat)) → IfSome figures (λ loaded. NotesOwn (length loaded) looked.seat)
-    → IfSome figures (λ loaded. reads call ≡ true → length loaded ≡ slots) → slots ≡ (state_after base).next_slot
+    → IfSome figures (λ loaded. reads_counters call ≡ true → length loaded ≡ slots) → slots ≡ (state_after base).next_slot
     → after ≡ record looked { told = after.told } → Begins told after.told → ((after.told ≡ looked.told) ⊎ (after.told ≡ told))
     → IsCalled call reply (record { lane = lane; calls = length entries; last = last; worker = worker; waiting = waiting }) (record { lane = lane; calls = length more; last = told; worker = after; waiting = waiting })
 called call reply lane entries more last base told worker looked after waiting slots figures begins grew before now made goes one look sums own drawn slots_are others learnt either =

@@ -1,6 +1,7 @@
 -- What a pass is given next.
 use Rattle.std.proofs.Common.{◌≡◌, ◌⊎◌, ℕ, List, [], ◌∷◌, drop, Option, Some, None, IfSome, ap, sym, subst, ◌∙◌}
 use Rattle.std.specs.Prelude.{slice_get, ◌≢◌}
+use Rattle.digest_lists.specs.Fold.{sent_at_tick}
 use Rattle.live_desk.specs.Mailing.{Living, mail_lane}
 use Rattle.live_desk.specs.Passing.{HasLearnt, IsGiven, IsNoOutput, Passing}
 use Rattle.mail_room.specs.AllMail.{Gives, MailState, missed, ticked}
@@ -42,7 +43,7 @@ given_mail (oldest ∷ others) next before between after is none same mail learn
 -- what waits longest for a lane was given, behind the lists that were due, of which one goes to this lane
 abbrev IsNext : Living → Option ℕ → ℕ → ℕ → Option (Next × Option Beginning) → MailState Beginning → Type 0
 IsNext living primary moment lane given after =
-    Gives (ticked living.mail primary moment) lane given after ⊎ ((living.mail.lists ≢ []) × Gives (missed living.mail) lane given after)
+    Gives (ticked living.mail primary moment) lane given after ⊎ ((sent_at_tick living.mail.lists moment ≢ None) × Gives (missed living.mail) lane given after)
 
 -- the same, where what stands behind the lock is seen, and the lane is that of the primary of role 0
 pub given_next : (now inside : Living) (primary : Option ℕ) (moment lane : ℕ) (given : Option (Next × Option Beginning)) (after : MailState Beginning)

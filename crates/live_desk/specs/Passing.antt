@@ -3,7 +3,7 @@ use Rattle.std.specs.Prelude.{◌≡◌, ℕ, ◌+◌, ◌≤◌, ◌++◌, true
 use Rattle.ctl_core.specs.Core.{raised}
 use Rattle.live_desk.specs.Callers.{events_by}
 use Rattle.live_desk.specs.Locked.{IsMade}
-use Rattle.live_desk.specs.Sums.{HasLooked, reads}
+use Rattle.live_desk.specs.Sums.{HasLooked, reads_counters}
 use Rattle.snap_worker.specs.Sums.{AreSums, NotesOwn, noted_by}
 use Rattle.mail_room.specs.declared.next.Next.{Next}
 use Rattle.mail_room.specs.declared.next.Next.TheVariants as nexts
@@ -29,11 +29,11 @@ pub record Passing : Type 0 where
   -- what its packets made leave and nobody has taken yet, oldest first
   pub waiting : List Output
 
--- What a call saw of the counters: for one that reads the sums that the worker's seat has noted of each slot that was drawn, which are
+-- What a call saw of the counters: for one that reads counters the sums that the worker's seat has noted of each slot that was drawn, which are
 -- at least what it has added there.
 abbrev pub HasSeen : Call → ℕ → Option (List (ℕ × ℕ)) → Working → Type 0
 HasSeen call slots None worker = Unit {0}
-HasSeen call slots (Some figures) worker = AreSums figures (noted_by worker.seat) × NotesOwn (length figures) worker.seat × (reads call ≡ true → length figures ≡ slots)
+HasSeen call slots (Some figures) worker = AreSums figures (noted_by worker.seat) × NotesOwn (length figures) worker.seat × (reads_counters call ≡ true → length figures ≡ slots)
 
 -- The pass made a call behind a published list that begins with all that it had seen or learnt, and that has no event of its caller
 -- that its own calls did not make. It has then seen that list with the call's events.

@@ -12,15 +12,18 @@ use crate::handed::Handed;
 use crate::live::Live;
 use crate::naming::Naming;
 use crate::pass::Pass;
+use crate::wakers::LinkWakers;
 use counter_bank::Bank;
 use lane_table::LaneTable;
 use mail_room::Next;
 use p4_types::calls::{Call, Reply};
+use p4_types::messages::StreamMessageRequest;
 use pkt_worker::Verdict;
 use std::alloc::Global;
 use std::marker::Model;
 use std::sync::{Mutex, Wait};
 use std::thread::yield_now;
+use sw_edge::LinkWaker;
 
 /// What callers share: the control of the switch and what waits for controllers behind one lock, the table of lanes, and the bank of
 /// counters. It owns what waiting needs.
@@ -30,6 +33,15 @@ pub struct LiveDesk<J: Naming, R: Wait + Drop> {
     pub(crate) table: LaneTable<CallSteps>,
     pub(crate) bank: Bank,
     pub(crate) live: Mutex<Live<J, R>>,
+    pub(crate) wakers: LinkWakers,
+}
+
+// Whether a call may change what other controllers are told of their standing.
+fn tells_others(call: &Call) -> bool {
+    matches!(
+        call,
+        Call::Leave | Call::Stream(Some(StreamMessageRequest::Arbitration(_)))
+    )
 }
 
 // Written out, so that those who let one go need not look into it.
@@ -41,6 +53,7 @@ impl<J: Naming, R: Wait + Drop> Drop for LiveDesk<J, R> {
             table: _table,
             bank: _bank,
             live: _live,
+            wakers: _wakers,
         } = self;
     }
 }
@@ -64,6 +77,7 @@ impl<J: Naming, R: Wait + Drop> LiveDesk<J, R> {
         table: LaneTable<CallSteps>,
         bank: Bank,
         live: Live<J, R>,
+        wakers: LinkWakers,
     ) -> LiveDesk<J, R>
         requires table { table ≡ J.table }
         requires bank { bank.id ≡ J.bank }
@@ -76,6 +90,7 @@ impl<J: Naming, R: Wait + Drop> LiveDesk<J, R> {
             table,
             bank,
             live: Mutex::new(live),
+            wakers,
         }
     }
 
@@ -91,6 +106,7 @@ impl<J: Naming, R: Wait + Drop> LiveDesk<J, R> {
             table,
             bank,
             live,
+            wakers: _wakers,
         } = self;
         (table, bank, live.into_inner())
     }
@@ -136,6 +152,9 @@ impl<J: Naming, R: Wait + Drop> LiveDesk<J, R> {
         ensures asked { IsAsked J.start.cpu call.now result pass.old pass.new }
     {
         let reply = self.call(pass, call);
+        if tells_others(call) {
+            self.wakers.wake_others(&self.rt, pass.lane());
+        }
         pass.follow(&self.rt, self.alloc, &self.bank, &reply.packet, verdict);
         if reply.packet.is_some() {
             self.deliver(pass.worker.receiver(), verdict, 0);
@@ -187,13 +206,22 @@ impl<J: Naming, R: Wait + Drop> LiveDesk<J, R> {
 
     /// Hands on what a worker's packet gives to controllers, at a moment in nanoseconds: packets to the lane, where that has a session,
     /// and a sample to the lists of its digest. What finds no memory or no room is dropped. Where there is nothing to hand on, it takes
-    /// no lock.
+    /// no lock. The lane's link is woken.
     pub fn deliver(&self, receiver: Option<u16>, verdict: &Verdict, now: u64) {
         let handed = Handed::of(self.alloc, verdict);
         if handed.is_nothing() {
             return;
         }
         self.live.lock(&self.rt).deliver(receiver, handed, now);
+        if let Some(lane) = receiver {
+            self.wakers.wake(&self.rt, lane);
+        }
+    }
+
+    /// The link that serves the lane's controller is woken by this from now on as soon as something waits for the controller, or by
+    /// nothing. A link that is not woken finds what waits when it looks.
+    pub fn set_waker(&self, lane: u16, waker: Option<LinkWaker>) {
+        self.wakers.set(&self.rt, lane, waker);
     }
 
     // Gives what waits for the pass's lane at the desk, from which the pass learns.
@@ -202,6 +230,7 @@ impl<J: Naming, R: Wait + Drop> LiveDesk<J, R> {
         ensures learnt { HasLearnt pass.old pass.new }
     {
         let lane = pass.lane();
+        self.wakers.look(lane);
         let (next, told) = self.live.lock(&self.rt).next(lane, now)?;
         if let Some(told) = told {
             pass.learn(&told);

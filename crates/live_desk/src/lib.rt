@@ -19,6 +19,7 @@ mod parts;
 mod pass;
 mod passes;
 mod running;
+mod wakers;
 
 pub use call_steps::CallSteps;
 pub use desk::LiveDesk;

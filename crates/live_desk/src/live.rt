@@ -1,5 +1,6 @@
 //! What stands behind the lock of a desk that serves: the control of the switch with its published list, and what waits for controllers.
-ghost use Rattle.std.specs.Prelude.{◌≡◌, ◌≢◌, ◌⊎◌, ◌<◌, ◌≤◌, [], length, max, IfNone, IfSome};
+ghost use Rattle.std.specs.Prelude.{◌≡◌, ◌≢◌, ◌⊎◌, ◌<◌, ◌≤◌, None, length, max, IfNone, IfSome};
+ghost use Rattle.digest_lists.specs.Fold.{sent_at_tick};
 ghost use Rattle.live_desk.specs.Locked.{Locking};
 ghost use Rattle.live_desk.specs.Mailing.{IsAnswered, IsSampled, acknowledged_by, entries_of, is_left, live_lane, mail_lane, packets_given, reply_to, settled};
 ghost use Rattle.mail_room.specs.AllMail.{Gives, IsLaneIfAny, missed, ticked};
@@ -216,7 +217,7 @@ impl<J: Naming, R: Wait + Drop> Live<J, R> {
     pub fn next(&mut self, lane: u16, now: u64) -> Option<(Next, Option<DeskTold<J>>)>
         requires lane { lane < 32 }
         ensures given { Gives (ticked self.old.mail (mail_lane (receiver (state_after self.old.locking.told))) self.new.moment) lane result self.new.mail
-            ⊎ ((self.old.mail.lists ≢ []) × Gives (missed self.old.mail) lane result self.new.mail) }
+            ⊎ ((sent_at_tick self.old.mail.lists self.new.moment ≢ None) × Gives (missed self.old.mail) lane result self.new.mail) }
         ensures mail { IfSome result (λ given. IsMail given.0) }
         ensures moment { self.new.moment ≡ max self.old.moment now }
         ensures locking { self.new.locking ≡ self.old.locking }

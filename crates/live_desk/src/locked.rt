@@ -247,7 +247,7 @@ impl<J: Naming, R: Wait + Drop> Locked<J, R> {
     }
 
     /// Makes a pass's next call, and publishes what it did, unless what is published does not begin with all that the pass has seen
-    /// or learnt. A call that reads sees the counters as the pass's own seat finds them then.
+    /// or learnt. A call that reads counters sees them as the pass's own seat finds them then.
     pub fn call(
         &mut self,
         table: &LaneTable<CallSteps>,

@@ -14,6 +14,7 @@ use crate::naming::Naming;
 use crate::parts::Parts;
 use crate::pass::Pass;
 use crate::passes::{open_passes, open_workers};
+use crate::wakers::LinkWakers;
 use counter_bank::{Bank, Seat};
 use lane_table::LaneSeat;
 use list_types::NoMemory;
@@ -88,6 +89,11 @@ pub fn open_desk<J: Naming, R: Wait + Drop>(
         drop(publisher);
         return Err(NoMemory);
     };
+    let Ok(wakers) = LinkWakers::open(alloc) else {
+        drop(control);
+        drop(publisher);
+        return Err(NoMemory);
+    };
     let Ok(callers) = seat_callers::<J>(alloc, start.cpu, &bank, &mut rest, viewers, places) else {
         drop(control);
         drop(publisher);
@@ -95,5 +101,5 @@ pub fn open_desk<J: Naming, R: Wait + Drop>(
     };
     let locked = Locked::new(alloc, control, publisher, seat);
     let live = Live::new(locked, mail);
-    Ok((LiveDesk::new(alloc, rt, table, bank, live), callers))
+    Ok((LiveDesk::new(alloc, rt, table, bank, live, wakers), callers))
 }

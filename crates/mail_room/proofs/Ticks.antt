@@ -1,6 +1,5 @@
 -- A tick where no digest is set.
-use Rattle.std.proofs.Common.{◌≡◌, ℕ, false, List, [], ◌∷◌, Option, refl}
-use Rattle.std.specs.Prelude.{◌≢◌, ◌==◌, length}
+use Rattle.std.proofs.Common.{◌≡◌, ℕ, List, [], ◌∷◌, Option, refl}
 use Rattle.digest_lists.specs.State.{DigestState}
 use Rattle.mail_room.specs.Boxes.{BoxState}
 use Rattle.mail_room.specs.AllMail.{MailState, ticked}
@@ -12,7 +11,3 @@ of_parts boxes unstored (digest ∷ digests) primary now e = absurd cc
 
 pub nothing_set : {T : Type 0} (mail : MailState T) (primary : Option ℕ) (now : ℕ) → mail.lists ≡ [] → ticked mail primary now ≡ mail
 nothing_set mail primary now e = of_parts mail.boxes mail.unstored mail.lists primary now e
-
-pub some_set : {X : Type 0} (xs : List X) → false ≡ (length xs == 0) → xs ≢ []
-some_set [] e = λ x. absurd cc
-some_set (x ∷ xs) e = λ p. absurd cc

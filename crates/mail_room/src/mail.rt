@@ -1,7 +1,7 @@
 //! What waits for all controllers.
-ghost use Rattle.std.specs.Prelude.{◌≡◌, ◌≢◌, ◌⊎◌, [], false, IfOk, IfSome, All, replicate};
+ghost use Rattle.std.specs.Prelude.{◌≡◌, ◌≢◌, ◌⊎◌, None, false, IfOk, IfSome, All, replicate};
 ghost use Rattle.std.specs.Option.{option_copied};
-ghost use Rattle.digest_lists.specs.Fold.{HasRoom, IsTaken, set_digest, set_to, acknowledge};
+ghost use Rattle.digest_lists.specs.Fold.{HasRoom, IsTaken, set_digest, set_to, acknowledge, sent_at_tick};
 ghost use Rattle.mail_room.specs.Boxes.{IsMail, empty_box};
 ghost use Rattle.mail_room.specs.AllMail.{IsLane, IsLaneIfAny, no_mail, with_box, with_lists, missed, notified, posted, posted_one, own_notices, sent_to, packets_to, list_to, sampled, ticked, Gives, IsDoneOrMissed};
 
@@ -214,12 +214,12 @@ impl<T: Drop> Mail<T> {
     }
 
     /// Sends the primary the list of the lowest digest that is due at a moment, in nanoseconds, or nobody without one. Without memory nothing is
-    /// sent, which is counted, and the answer is false. Where no digest is set, no memory is asked for.
-    #[tactic(auto, using(crate::proofs::Ticks::nothing_set, crate::proofs::Ticks::some_set))]
+    /// sent, which is counted, and the answer is false. Where no list is due, no memory is asked for.
+    #[tactic(auto, using(crate::proofs::Ticks::nothing_set))]
     pub fn tick(&mut self, primary: Option<u16>, now: u64) -> bool
         requires { IsLaneIfAny primary }
         ensures done { IsDoneOrMissed result self.old (ticked self.old primary now) self.new }
-        ensures set { result ≡ false → self.old.lists ≢ [] }
+        ensures due { result ≡ false → sent_at_tick self.old.lists now ≢ None }
     {
         if self.lists.is_empty() {
             return true;
@@ -245,11 +245,11 @@ impl<T: Drop> Mail<T> {
         self.boxes[usize::from(lane)].next()
     }
 
-    /// `tick`, and then `take`. Where no digest is set, no memory is asked for.
+    /// `tick`, and then `take`. Where no list is due, no memory is asked for.
     pub fn next(&mut self, lane: u16, primary: Option<u16>, now: u64) -> Option<(Next, Option<T>)>
         requires lane { IsLane lane }
         requires primary { IsLaneIfAny primary }
-        ensures given { Gives (ticked self.old primary now) lane result self.new ⊎ ((self.old.lists ≢ []) × Gives (missed self.old) lane result self.new) }
+        ensures given { Gives (ticked self.old primary now) lane result self.new ⊎ ((sent_at_tick self.old.lists now ≢ None) × Gives (missed self.old) lane result self.new) }
         ensures mail { IfSome result (λ given. IsMail given.0) }
     {
         self.tick(primary, now);

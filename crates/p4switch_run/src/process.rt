@@ -5,7 +5,7 @@ ghost use Rattle.std.specs.Vec.Iter.{into_iter_items};
 ghost use Rattle.p4switch_run.specs.Command.{IsCommand};
 
 use crate::program::{end_without_memory, run};
-use real_net::RealNet;
+use real_net::{Loopback, RealNet};
 use std::alloc::{AllocError, Global};
 use std::env::{self, Args};
 use std::io::ErrorKind;
@@ -51,7 +51,7 @@ fn status_of<T: Threads + Wait + Sync>(threads: &T, rt: HostRuntime, words: &[St
     };
     let mut tape = RealSource::new(rt.stdin());
     let mut out = RealSink::new(rt.stdout());
-    let mut net = RealNet::new(&rt);
+    let mut net = RealNet::new(Loopback::new(&rt, alloc));
     let mut clock = RealClock::new(rt);
     run(
         threads,

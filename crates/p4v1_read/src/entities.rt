@@ -10,8 +10,8 @@ use list_types::Refusal;
 use p4_types::messages::{
     Action, ActionProfileAction, ActionProfileActionSet, ActionProfileGroup, ActionProfileMember,
     CounterData, CounterEntry, DigestConfig, DigestEntry, DirectCounterEntry, Entity, FieldMatch,
-    FieldMatchKind, Index, Member, MulticastGroupEntry, PacketReplicationEngineEntry, Param, Replica,
-    TableAction, TableEntry,
+    FieldMatchKind, Index, Member, MulticastGroupEntry, PacketReplicationEngineEntry, Param,
+    Replica, TableAction, TableEntry,
 };
 use std::alloc::Global;
 use wire_messages::{Message, Unreadable};
@@ -427,9 +427,7 @@ fn entity(alloc: Global, message: &Message<'_>, member: u32) -> Result<Entity, R
         4 => Ok(Entity::ActionProfileGroup(reading::member(alloc, message, 4)?)),
         7 => Ok(Entity::CounterEntry(reading::member(alloc, message, 7)?)),
         8 => Ok(Entity::DirectCounterEntry(reading::member(alloc, message, 8)?)),
-        9 => Ok(Entity::PacketReplicationEngineEntry(reading::member(
-            alloc, message, 9,
-        )?)),
+        9 => Ok(Entity::PacketReplicationEngineEntry(reading::member(alloc, message, 9)?)),
         12 => Ok(Entity::DigestEntry(reading::member(alloc, message, 12)?)),
         _ => {
             message.message(member)?;

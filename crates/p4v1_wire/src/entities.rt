@@ -11,8 +11,8 @@ use list_types::NoMemory;
 use p4_types::messages::{
     Action, ActionProfileAction, ActionProfileActionSet, ActionProfileGroup, ActionProfileMember,
     CounterData, CounterEntry, DigestConfig, DigestEntry, DirectCounterEntry, Entity, FieldMatch,
-    FieldMatchKind, Index, Member, MulticastGroupEntry, PacketReplicationEngineEntry, Param, Replica,
-    TableAction, TableEntry,
+    FieldMatchKind, Index, Member, MulticastGroupEntry, PacketReplicationEngineEntry, Param,
+    Replica, TableAction, TableEntry,
 };
 use std::alloc::Global;
 use wire_fields::Writer;

@@ -9,10 +9,10 @@ use crate::attempts::{TRIES, Trouble, WAITS, judged};
 use crate::count::raise;
 use crate::system::Stream;
 use std::marker::Model;
-use sw_edge::{Link, Pulled, Sent};
+use sw_edge::{Link, LinkWaker, Pulled, Sent};
 
 /// A link over a stream, as of TCP, which tells what the stream tells and no content. A pull that waits longer than the
-/// stream lets it (50 milliseconds over TCP) is Quiet. A push fails where 50 writes, one behind the other, wait as long as the
+/// stream lets it (50 milliseconds over TCP) is Quiet, and so is one that its waker ends. A push fails where 50 writes, one behind the other, wait as long as the
 /// stream lets them (100 milliseconds over TCP) and it takes no byte in them: over TCP a peer that takes nothing is given
 /// up 5 seconds behind the last byte that was taken, one that takes some is waited for. So does a push at each other error.
 #[derive(Drop)]
@@ -167,5 +167,9 @@ impl<S: Stream> Link for RealLink<S> {
             raise(&mut self.faults);
         }
         told
+    }
+
+    fn waker(&self) -> Option<LinkWaker> {
+        self.stream.waker()
     }
 }

@@ -1,21 +1,19 @@
 // The system's TCP and UDP on 127.0.0.1.
 ghost use Rattle.std.specs.Prelude.{⊤};
 
-use crate::attempts::WAITS;
-use crate::system::{Datagrams, Listener, Network, Stream};
-use std::io::{self, Read, Write};
+use crate::polled::PolledStream;
+use crate::system::{Datagrams, Listener, Network};
+use std::alloc::Global;
+use std::io;
 use std::net::{self, Ipv4Addr, SocketAddr, TcpListener, TcpStream, UdpSocket};
 use std::os::fd::OwnedFd;
 use std::time::Duration;
 
-// How long a read, a receive and an accept wait, in milliseconds.
+// How long a receive and an accept wait, in milliseconds.
 const WAIT: u64 = 50;
 
-// How long a send waits, and all the waits together of a write of which the peer takes nothing, in milliseconds.
+// How long a send waits, in milliseconds.
 const PATIENCE: u64 = 5_000;
-
-// How long one write waits, in milliseconds.
-const WRITE_WAIT: u64 = PATIENCE / WAITS as u64;
 
 fn after(milliseconds: u64) -> Option<Duration> {
     Some(Duration::from_millis(milliseconds))
@@ -23,20 +21,6 @@ fn after(milliseconds: u64) -> Option<Duration> {
 
 fn at(port: u16) -> SocketAddr {
     SocketAddr::from((Ipv4Addr::LOCALHOST, port))
-}
-
-impl Stream for TcpStream {
-    ghost reads = { λ _ _ _. ⊤ };
-
-    ghost writes = { λ _ _ _ _. ⊤ };
-
-    fn try_read(&mut self, buf: &mut [u8]) -> io::Result<usize> {
-        self.read(buf)
-    }
-
-    fn try_write(&mut self, bytes: &[u8]) -> io::Result<usize> {
-        self.write(bytes)
-    }
 }
 
 impl Datagrams for UdpSocket {
@@ -59,17 +43,22 @@ impl Datagrams for UdpSocket {
     }
 }
 
-impl Listener for TcpListener {
-    type Stream = TcpStream;
+// A port of TCP, with what the streams that come there are made with.
+#[derive(Drop)]
+pub struct LoopbackListener<R> {
+    rt: R,
+    alloc: Global,
+    listener: TcpListener,
+}
+
+impl<R: net::Net> Listener for LoopbackListener<R> {
+    type Stream = PolledStream;
 
     ghost accepts = { λ _ _ _. ⊤ };
 
-    fn try_accept(&mut self) -> io::Result<TcpStream> {
-        let (stream, _) = self.accept()?;
-        stream.set_nodelay(true)?;
-        stream.set_read_timeout(after(WAIT))?;
-        stream.set_write_timeout(after(WRITE_WAIT))?;
-        Ok(stream)
+    fn try_accept(&mut self) -> io::Result<PolledStream> {
+        let (stream, _) = self.listener.accept()?;
+        PolledStream::new(&self.rt, self.alloc, stream)
     }
 }
 
@@ -80,10 +69,24 @@ fn wait_shortly(listener: TcpListener) -> io::Result<TcpListener> {
     Ok(TcpListener::from(OwnedFd::from(handle)))
 }
 
-impl<R: net::Net<Listener = TcpListener, Stream = TcpStream>> Network for R {
-    type Stream = TcpStream;
+/// TCP and UDP on 127.0.0.1, by a handle of the network and with the memory in which links wait.
+#[derive(Clone, Copy)]
+pub struct Loopback<R> {
+    rt: R,
+    alloc: Global,
+}
 
-    type Listener = TcpListener;
+impl<R> Loopback<R> {
+    /// By this handle, with memory from here.
+    pub fn new(rt: R, alloc: Global) -> Loopback<R> {
+        Loopback { rt, alloc }
+    }
+}
+
+impl<R: net::Net<Listener = TcpListener, Stream = TcpStream> + Copy> Network for Loopback<R> {
+    type Stream = PolledStream;
+
+    type Listener = LoopbackListener<R>;
 
     type Socket = UdpSocket;
 
@@ -91,12 +94,17 @@ impl<R: net::Net<Listener = TcpListener, Stream = TcpStream>> Network for R {
 
     ghost binds = { λ _ _ _. ⊤ };
 
-    fn try_listen(&self, port: u16) -> io::Result<TcpListener> {
-        wait_shortly(TcpListener::bind(self, at(port))?)
+    fn try_listen(&self, port: u16) -> io::Result<LoopbackListener<R>> {
+        let listener = wait_shortly(TcpListener::bind(&self.rt, at(port))?)?;
+        Ok(LoopbackListener {
+            rt: self.rt,
+            alloc: self.alloc,
+            listener,
+        })
     }
 
     fn try_bind(&self, port: u16) -> io::Result<UdpSocket> {
-        let socket = UdpSocket::bind(self, at(port))?;
+        let socket = UdpSocket::bind(&self.rt, at(port))?;
         socket.set_read_timeout(after(WAIT))?;
         socket.set_write_timeout(after(PATIENCE))?;
         Ok(socket)

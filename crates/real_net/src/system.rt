@@ -6,6 +6,7 @@ ghost use Rattle.std.specs.declared.io.Error.{Error};
 ghost use Rattle.real_net.specs.Attempts.{given};
 
 use std::io;
+use sw_edge::LinkWaker;
 
 // A stream of bytes in both directions, of which single reads and writes are tried.
 pub trait Stream {
@@ -22,6 +23,11 @@ pub trait Stream {
     fn try_write(&mut self, bytes: &[u8]) -> io::Result<usize>
         ensures bound { WritesAtMost result bytes.now }
         ensures answer { writes bytes.now self.old result self.new };
+
+    // What ends the wait of a read from another thread, where there is such a thing.
+    fn waker(&self) -> Option<LinkWaker> {
+        None
+    }
 }
 
 // A socket of datagrams, of which single ones are tried to be received and sent.

@@ -11,3 +11,5 @@ mod places;
 mod stops;
 #[cfg(test)]
 mod waits;
+#[cfg(test)]
+mod wakes;

@@ -1,7 +1,7 @@
 // Links over TCP.
 use crate::places::{at, control_port};
 use crate::waits::{accepted, pulled};
-use real_net::RealNet;
+use real_net::{Loopback, RealNet};
 use std::io::{Read, Write};
 use std::net::{Ipv4Addr, Net as Network, SocketAddr, TcpListener, TcpStream};
 use std::process::Abort;
@@ -117,7 +117,7 @@ fn fails_when_full<L: Link>(link: &mut L) -> bool {
 #[test]
 fn a_link_is_accepted_and_carries_bytes_to_its_end(rt: HostRuntime) -> Result<(), Fail> {
     let control = control_port(&rt)?;
-    let mut net = RealNet::new(&rt);
+    let mut net = RealNet::new(Loopback::new(&rt, rt.alloc()));
     assert!(rt; fails_to_accept(&mut net), "before it listens");
     assert!(rt; matches!(net.listen(control, 0), Sent::All));
     assert!(rt; is_quiet(&mut net), "before a link comes");
@@ -131,8 +131,8 @@ fn a_link_is_accepted_and_carries_bytes_to_its_end(rt: HostRuntime) -> Result<()
 #[test]
 fn a_port_that_is_in_use_is_refused(rt: HostRuntime) -> Result<(), Fail> {
     let control = control_port(&rt)?;
-    let mut first = RealNet::new(&rt);
-    let mut second = RealNet::new(&rt);
+    let mut first = RealNet::new(Loopback::new(&rt, rt.alloc()));
+    let mut second = RealNet::new(Loopback::new(&rt, rt.alloc()));
     assert!(rt; matches!(first.listen(control, 0), Sent::All));
     assert!(rt; matches!(second.listen(control, 0), Sent::Failed));
     assert!(rt; fails_to_accept(&mut second));
@@ -146,7 +146,7 @@ fn a_port_that_is_in_use_is_refused(rt: HostRuntime) -> Result<(), Fail> {
 #[test]
 fn a_push_to_a_peer_that_reads_nothing_fails(rt: HostRuntime) -> Result<(), Fail> {
     let control = control_port(&rt)?;
-    let mut net = RealNet::new(&rt);
+    let mut net = RealNet::new(Loopback::new(&rt, rt.alloc()));
     assert!(rt; matches!(net.listen(control, 0), Sent::All));
     let mut ends = connected(&rt, &mut net, control)?;
     assert!(rt; fails_when_full(&mut ends.link));

@@ -1,7 +1,7 @@
 // Packets over UDP.
 use crate::places::{at, control_port, packet_port};
 use crate::waits::taken;
-use real_net::RealNet;
+use real_net::{Loopback, RealNet};
 use std::io;
 use std::net::{Net as Network, UdpSocket};
 use std::process::Abort;
@@ -120,7 +120,7 @@ fn packets_come_in_and_go_out_behind_their_ports(rt: HostRuntime) -> Result<(), 
     let (packets, outputs) = packet_port(&rt)?;
     outputs.set_read_timeout(Some(Duration::from_secs(5)))?;
     let control = control_port(&rt)?;
-    let mut net = RealNet::new(&rt);
+    let mut net = RealNet::new(Loopback::new(&rt, rt.alloc()));
     assert!(rt; matches!(net.listen(control, packets), Sent::All));
     carry(&rt, &mut net, packets, &outputs)?;
     Ok(())

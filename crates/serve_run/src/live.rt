@@ -50,8 +50,11 @@ impl<J: Naming + Send, R: Wait + Drop> SharedDesk for LiveDesk<J, R> {
         pass: &mut LinkPass<J>,
         clock: &mut K,
     ) {
+        let lane = pass.pass.lane();
+        self.set_waker(lane, link.waker());
         let desk = ServedDesk::new(self);
         let _end = serve_link(rt, alloc, link, ports, &desk, pass, clock);
+        self.set_waker(lane, None);
         leave(rt, self, pass);
     }
 

@@ -17,6 +17,7 @@ mod real;
 mod streams;
 mod system;
 mod timing;
+mod waker;
 
 pub use answers::{Accepted, Got, Opened, Pulled, Sent, Taken};
 pub use lists::{ListClock, OpenGate};
@@ -30,6 +31,7 @@ pub use packets::{Arrival, Departure};
 pub use real::{RealClock, RealSink, RealSource};
 pub use streams::{Sink, Source};
 pub use timing::{Clock, Gate, Stop};
+pub use waker::LinkWaker;
 
 /// The bytes of the longest packet that enters the switch.
 pub const MAX_PACKET: usize = 9216;

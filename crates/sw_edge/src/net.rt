@@ -4,7 +4,7 @@ ghost use Rattle.sw_edge.specs.Answers.{PullFits, Pulls, Sends, PacketFits, Take
 ghost use Rattle.sw_edge.specs.Counts.{HasCause, StaysUnless};
 ghost use Rattle.sw_edge.specs.Told.{Keeps};
 
-use crate::{Accepted, MAX_PACKET, Opened, Pulled, Sent, Taken};
+use crate::{Accepted, LinkWaker, MAX_PACKET, Opened, Pulled, Sent, Taken};
 
 /// One connection of a controller. No call takes memory. `pull` and `push` may wait; a real link owns what waiting needs,
 /// so no call is handed it.
@@ -45,6 +45,12 @@ pub trait Link {
         ensures no_fault { StaysUnless (faults self.old) (faults self.new) (result ≡ Sent.Failed) }
         ensures quiet { quiets self.new ≡ quiets self.old }
         ensures end { ends self.new ≡ ends self.old };
+
+    /// What ends the wait of a pull from another thread, where the link has such a thing: the pull then finds no bytes for now, unless
+    /// some have come.
+    fn waker(&self) -> Option<LinkWaker> {
+        None
+    }
 }
 
 /// The ports of the switch: packets come in and go out. No call takes memory. `take` and `put` may wait; real ports own

@@ -1,6 +1,7 @@
 pub mod Answers
 pub mod Counters
 pub mod CpuPort
+pub mod Figureless
 pub mod RoleConfigs
 pub mod Settings
 pub mod Sound

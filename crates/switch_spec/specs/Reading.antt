@@ -1,6 +1,6 @@
 -- What a Read selects, and how it is answered (P4Runtime 1.3.0, "Read RPC"; order and size of the messages: this project's profile).
-use Rattle.std.specs.Prelude.{ℕ, zero, suc, ◌+◌, ◌-◌, ◌^◌, min, ℤ, pos, negsuc, ◌==◌, ◌&&◌, ◌||◌, not, nat_lt, nat_le, Bool, if◌then◌else◌, List, [], ◌∷◌, map, filter, find, take, drop, length, Option, Some, None, is_some, Result, Ok, Err}
-use Rattle.std.specs.List.{filter_map, flat_map}
+use Rattle.std.specs.Prelude.{◌≡◌, ℕ, zero, suc, ◌+◌, ◌-◌, ◌^◌, min, ℤ, pos, negsuc, ◌==◌, ◌&&◌, ◌||◌, not, nat_lt, nat_le, Bool, true, false, if◌then◌else◌, List, [], ◌∷◌, map, filter, find, take, drop, length, Option, Some, None, is_some, Result, Ok, Err}
+use Rattle.std.specs.List.{filter_map, flat_map, list_any}
 use Rattle.std.specs.Ordering.{int_eq}
 use Rattle.p4_types.specs.declared.code.Code.{Code}
 use Rattle.p4_types.specs.declared.code.Code.TheVariants as codes
@@ -219,3 +219,17 @@ read_in (Some plane) g request = read_unless (first_of (map (entity_refusal plan
 -- the messages that answer a Read where the counters have these figures, or the code of the first entity asked for that is refused
 unfoldable pub read_result : ControlState → Figures → ReadRequest → Result (List (List ℕ)) Code
 read_result c g request = if request.device_id == c.device then read_in (target c) g request else Err codes.NotFound
+
+-- whether an entity that is asked for is a counter
+abbrev pub is_counter : Option Entity → Bool
+is_counter (Some (entities.CounterEntry asked)) = true
+is_counter (Some (entities.DirectCounterEntry asked)) = true
+is_counter _ = false
+
+-- whether a Read asks for counters
+abbrev pub asks_counters : ReadRequest → Bool
+asks_counters request = list_any is_counter request.entities
+
+-- What a Read that asks for no counters is answered does not depend on what they have counted.
+abbrev pub OnlyCountersTell : Type 0
+OnlyCountersTell = (c : ControlState) (g h : Figures) (request : ReadRequest) → asks_counters request ≡ false → read_result c g request ≡ read_result c h request
