@@ -29,7 +29,8 @@ impl<D> Model for Bound<D> {
 /// A net over a network, as the system's TCP and UDP on 127.0.0.1, which tells what the network tells. It listens for
 /// links at one port and takes packets at another; outputs go to the port above that. Without a port of packets, which is
 /// said by 0, there are no ports to be had. An accept that waits longer than the listener lets it (50 milliseconds over
-/// TCP) is Quiet. Each error counts as a fault. There is no end.
+/// TCP) is Quiet; so is one to which the system has no handle and no room to give for now, after a wait of that time. Each other error
+/// counts as a fault. There is no end.
 #[derive(Drop)]
 pub struct RealNet<N: Network> {
     network: N,

@@ -29,24 +29,42 @@ const BYTES: Token = Token(0);
 
 const WOKEN: Token = Token(1);
 
-// Where a read waits.
+// Where a thread waits.
 #[derive(Drop)]
-struct Waits {
+pub struct Pause {
     poll: Poll,
     events: Events,
 }
 
-impl Waits {
-    fn new<R: Net>(rt: &R, alloc: Global, stream: &TcpStream) -> io::Result<Waits> {
+impl Pause {
+    pub fn new<R: Net>(rt: &R, alloc: Global) -> io::Result<Pause> {
         let poll = Poll::new(rt)?;
+        match Events::with_capacity(alloc, EVENTS) {
+            Ok(events) => Ok(Pause { poll, events }),
+            Err(_) => Err(io::Error::from(ErrorKind::OutOfMemory)),
+        }
+    }
+
+    // Until something comes, but not longer than a read waits.
+    fn wait_for_any(&mut self) -> io::Result<()> {
+        self.poll
+            .poll(&mut self.events, Some(Duration::from_millis(WAIT)))
+    }
+
+    pub fn wait(&mut self) {
+        let _woken = self.wait_for_any();
+    }
+
+    // Where a read of the stream waits, which does not wait by itself then.
+    fn of<R: Net>(rt: &R, alloc: Global, stream: &TcpStream) -> io::Result<Pause> {
+        let pause = Pause::new(rt, alloc)?;
         let fd = stream.as_raw_fd();
-        poll.registry()
+        pause
+            .poll
+            .registry()
             .register(&mut SourceFd(&fd), BYTES, Interest::READABLE)?;
-        let Ok(events) = Events::with_capacity(alloc, EVENTS) else {
-            return Err(io::Error::from(ErrorKind::OutOfMemory));
-        };
         stream.set_nonblocking(true)?;
-        Ok(Waits { poll, events })
+        Ok(pause)
     }
 }
 
@@ -54,7 +72,7 @@ impl Waits {
 #[derive(Drop)]
 pub struct PolledStream {
     stream: TcpStream,
-    waits: Option<Waits>,
+    pause: Option<Pause>,
 }
 
 impl PolledStream {
@@ -62,8 +80,8 @@ impl PolledStream {
         stream.set_nodelay(true)?;
         stream.set_read_timeout(Some(Duration::from_millis(WAIT)))?;
         stream.set_write_timeout(Some(Duration::from_millis(WRITE_WAIT)))?;
-        let waits = Waits::new(rt, alloc, &stream).ok();
-        Ok(PolledStream { stream, waits })
+        let pause = Pause::of(rt, alloc, &stream).ok();
+        Ok(PolledStream { stream, pause })
     }
 
     // Writes some of the bytes, and waits for the peer where it has no room for any.
@@ -91,29 +109,27 @@ impl Stream for PolledStream {
 
     fn try_read(&mut self, buf: &mut [u8]) -> io::Result<usize> {
         let told = self.stream.read(buf);
-        let Some(waits) = &mut self.waits else {
+        let Some(pause) = &mut self.pause else {
             return told;
         };
         if !would_wait(&told) {
             return told;
         }
-        waits
-            .poll
-            .poll(&mut waits.events, Some(Duration::from_millis(WAIT)))?;
+        pause.wait_for_any()?;
         self.stream.read(buf)
     }
 
     fn try_write(&mut self, bytes: &[u8]) -> io::Result<usize> {
         let told = self.stream.write(bytes);
-        if self.waits.is_some() && would_wait(&told) {
+        if self.pause.is_some() && would_wait(&told) {
             return self.write_waiting(bytes);
         }
         told
     }
 
     fn waker(&self) -> Option<LinkWaker> {
-        match &self.waits {
-            Some(waits) => LinkWaker::new(waits.poll.registry(), WOKEN).ok(),
+        match &self.pause {
+            Some(pause) => LinkWaker::new(pause.poll.registry(), WOKEN).ok(),
             None => None,
         }
     }

@@ -7,7 +7,7 @@ use std::alloc::Global;
 use std::sync::{Condvar, Mutex, Wait};
 
 /// How many passes a desk has: one for each lane, 0 to 31.
-const LANES: usize = 32;
+pub(crate) const LANES: usize = 32;
 
 // A place for the pass of each lane.
 #[derive(Drop)]

@@ -2,6 +2,7 @@
 #![tactic(auto)]
 
 mod accepting;
+mod callers;
 mod clock;
 mod ending;
 mod hall;

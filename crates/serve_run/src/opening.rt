@@ -4,6 +4,7 @@ ghost use Rattle.counter_bank.specs.Account.{most_slots};
 ghost use Rattle.live_desk.specs.Opening.{AreParts};
 ghost use Rattle.sw_edge.specs.Counts.{HasCause, StaysUnless};
 
+use crate::callers::Callers;
 use crate::clock::LentClock;
 use crate::ending::ServeEnd;
 use crate::hall::Hall;
@@ -62,11 +63,17 @@ fn serve_at<
         drop(workers);
         return (net, ServeEnd::Memory);
     };
+    let Ok(callers) = Callers::open(alloc) else {
+        drop(desk);
+        drop(workers);
+        return (net, ServeEnd::Memory);
+    };
     let shared = Shared {
         rt,
         alloc,
         desk,
         hall,
+        callers,
         clock: Mutex::new(LentClock::new(clock)),
         stop: StopFlag::new(),
     };
@@ -76,6 +83,7 @@ fn serve_at<
         alloc: _,
         desk,
         hall,
+        callers: _callers,
         clock: _,
         stop: _,
     } = shared;
@@ -144,8 +152,8 @@ fn listen_and_serve<T: Threads + Wait + Sync, N: Net + Drop, K: Clock + Send>(
 
 /// Serves controllers and packets of a net until it ends or fails (P4Runtime 1.3.0, "P4Runtime Service"): it listens, and each link is
 /// served on a thread of its own by the pass of the lowest of the 32 lanes that serve none, beside the workers, at most 16, of which
-/// each carries the packets of ports of its own. While all lanes serve a link no other is accepted. Where no thread can be made, the
-/// caller does the work. It returns once all threads have ended, and waits for that; a net that never ends it serves for ever.
+/// each carries the packets of ports of its own. While all lanes serve a link no other is accepted. Where no thread can be made for a
+/// link, the link is closed, and where none can be made for a worker, the caller does its work at the end. It returns once all threads have ended, and waits for that; a net that never ends it serves for ever.
 pub fn serve<T: Threads + Wait + Sync, N: Net + Drop, K: Clock + Send>(
     rt: &T,
     alloc: Global,

@@ -1,4 +1,5 @@
 //! What the threads of a switch that serves share, and what each of them does.
+use crate::callers::Callers;
 use crate::clock::ThreadClock;
 use crate::hall::Hall;
 use crate::shared_desk::SharedDesk;
@@ -9,11 +10,12 @@ use sw_edge::{Clock, Link, Ports};
 
 /// What all threads share.
 #[derive(Drop)]
-pub(crate) struct Shared<D, A, R, C> {
+pub(crate) struct Shared<D, A, R, C, L, P> {
     pub(crate) rt: R,
     pub(crate) alloc: Global,
     pub(crate) desk: D,
     pub(crate) hall: Hall<A>,
+    pub(crate) callers: Callers<A, L, P>,
     pub(crate) clock: Mutex<C>,
     pub(crate) stop: StopFlag,
 }
@@ -33,20 +35,23 @@ pub(crate) struct Carrier<W, P> {
     pub(crate) ports: P,
 }
 
-/// Serves a controller's link to its end, and gives the pass back once its controller has left.
+/// Serves the controller's link that waits at a place to its end, and gives the pass back once its controller has left.
 pub(crate) fn serve_caller<
     D: SharedDesk,
     R: Wait + Drop,
     C: Clock + Drop,
     L: Link + Drop,
     P: Ports + Drop,
->(shared: &Shared<D, D::Pass, R, C>, caller: Caller<D::Pass, L, P>) {
+>(shared: &Shared<D, D::Pass, R, C, L, P>, place: usize) {
+    let rt = &shared.rt;
+    let Some(caller) = shared.callers.take(rt, place) else {
+        return;
+    };
     let Caller {
         mut pass,
         mut link,
         mut ports,
     } = caller;
-    let rt = &shared.rt;
     let mut clock = ThreadClock::new(rt, &shared.clock);
     shared.desk.serve(
         rt,
@@ -59,11 +64,30 @@ pub(crate) fn serve_caller<
     shared.hall.give(rt, pass);
 }
 
+/// Closes the link that waits at a place, and gives its pass back.
+pub(crate) fn give_up_caller<
+    D: SharedDesk,
+    R: Wait + Drop,
+    C: Clock + Drop,
+    L: Link + Drop,
+    P: Ports + Drop,
+>(shared: &Shared<D, D::Pass, R, C, L, P>, place: usize) {
+    let rt = &shared.rt;
+    if let Some(Caller { pass, link, ports }) = shared.callers.take(rt, place) {
+        drop(link);
+        drop(ports);
+        shared.hall.give(rt, pass);
+    }
+}
+
 /// Carries the packets of a worker's ports until these end or the switch stops.
-pub(crate) fn carry_packets<D: SharedDesk, R: Wait + Drop, C: Clock + Drop, P: Ports + Drop>(
-    shared: &Shared<D, D::Pass, R, C>,
-    carrier: Carrier<D::Worker, P>,
-) {
+pub(crate) fn carry_packets<
+    D: SharedDesk,
+    R: Wait + Drop,
+    C: Clock + Drop,
+    L: Link + Drop,
+    P: Ports + Drop,
+>(shared: &Shared<D, D::Pass, R, C, L, P>, carrier: Carrier<D::Worker, P>) {
     let Carrier {
         mut worker,
         mut ports,

@@ -4,14 +4,14 @@ ghost use Rattle.sw_edge.specs.Counts.{HasCause, StaysUnless};
 
 use crate::accepting::{Came, next_link};
 use crate::ending::ServeEnd;
-use crate::shared_desk::SharedDesk;
-use crate::sharing::{Caller, Carrier, Shared, carry_packets, serve_caller};
+use crate::shared_desk::{LanePass, SharedDesk};
+use crate::sharing::{Caller, Carrier, Shared, carry_packets, give_up_caller, serve_caller};
 use std::sync::Wait;
 use std::thread::{Scope, Threads, scope, scope_env};
 use sw_edge::{Clock, Net, Opened};
 
 // Takes links as they come, each with the pass of the lowest lane that serves none and on a thread of its own, until the net ends or
-// fails. Where no thread can be made, the link is served here.
+// fails. Where no thread can be made, the link is closed.
 fn take_links<
     's,
     'e,
@@ -19,7 +19,11 @@ fn take_links<
     R: Threads + Wait + Drop + Send + Sync,
     N: Net + Drop,
     C: Clock + Drop + Send,
->(threads: &'s Scope<'s, &'e ()>, shared: &'e Shared<D, D::Pass, R, C>, net: &mut N) -> ServeEnd
+>(
+    threads: &'s Scope<'s, &'e ()>,
+    shared: &'e Shared<D, D::Pass, R, C, N::Link, N::Ports>,
+    net: &mut N,
+) -> ServeEnd
 where
     D::Pass: 'e,
     D::Worker: 'e,
@@ -35,10 +39,12 @@ where
         let pass = shared.hall.take(&shared.rt);
         match next_link(net) {
             Came::Link(link, ports) => {
+                let place = pass.place();
                 let caller = Caller { pass, link, ports };
-                match threads.spawn(move || serve_caller(shared, caller)) {
+                shared.callers.put(&shared.rt, place, caller);
+                match threads.spawn(move || serve_caller(shared, place)) {
                     Ok(thread) => drop(thread),
-                    Err(refused) => (refused.value)(),
+                    Err(_) => give_up_caller(shared, place),
                 }
             }
             Came::Quiet => shared.hall.give(&shared.rt, pass),
@@ -66,7 +72,7 @@ fn take_links_beside<
     C: Clock + Drop + Send,
 >(
     threads: &'s Scope<'s, &'e ()>,
-    shared: &'e Shared<D, D::Pass, R, C>,
+    shared: &'e Shared<D, D::Pass, R, C, N::Link, N::Ports>,
     net: &mut N,
     workers: Vec<D::Worker>,
 ) -> ServeEnd
@@ -110,7 +116,11 @@ pub(crate) fn serve_net<
     R: Threads + Wait + Drop + Send + Sync,
     N: Net + Drop,
     C: Clock + Drop + Send,
->(shared: &'e Shared<D, D::Pass, R, C>, net: N, workers: Vec<D::Worker>) -> (N, ServeEnd)
+>(
+    shared: &'e Shared<D, D::Pass, R, C, N::Link, N::Ports>,
+    net: N,
+    workers: Vec<D::Worker>,
+) -> (N, ServeEnd)
 where
     D::Pass: 'e,
     D::Worker: 'e,
