@@ -6,3 +6,6 @@ pub mod Unbegun
 pub mod Unfinished
 pub mod Serving
 pub mod Slots
+pub mod LoadEndings
+pub mod LoadLemmas
+pub mod Numbers

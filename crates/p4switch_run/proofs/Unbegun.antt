@@ -23,6 +23,7 @@ unbegun (Some (jobs.Replay mode start)) old e = record {
   «because» = record { unfinished = none_taken old.left old.read_faults; hides_nothing = inl refl };
 }
 unbegun (Some jobs.Check) old e = record { kept = keeps old.sent; sound_sink = refl; «because» = none_taken old.left old.read_faults }
+unbegun (Some (jobs.Gen number)) old e = (record { kept = keeps old.sent; sound_sink = refl }, record { left = refl; sound_source = refl; not_ended = refl })
 unbegun (Some (jobs.Serve serving)) old e = (inr (inl refl), refl)
 
 -- it serves no net
@@ -30,6 +31,7 @@ pub net_unbegun : (o : Option Job) (ends faults : ℕ) → NetBy o statuses.NoMe
 net_unbegun None ends faults = (refl, refl)
 net_unbegun (Some (jobs.Replay mode start)) ends faults = (refl, refl)
 net_unbegun (Some jobs.Check) ends faults = (refl, refl)
+net_unbegun (Some (jobs.Gen number)) ends faults = (refl, refl)
 net_unbegun (Some (jobs.Serve serving)) ends faults = record {
   ended = record { later = omega arith; cause = λ e. absurd (omega (arith, ap status_number e)) };
   not_ended = λ _. refl;
@@ -41,4 +43,5 @@ pub unused : {A : Type 0} (o : Option Job) (x : A) → IsUnusedBy o x x
 unused None x = refl
 unused (Some (jobs.Replay mode start)) x = refl
 unused (Some jobs.Check) x = refl
+unused (Some (jobs.Gen number)) x = refl
 unused (Some (jobs.Serve serving)) x = tt

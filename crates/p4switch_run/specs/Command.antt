@@ -12,26 +12,30 @@ use Rattle.p4switch_run.specs.declared.words.Job.{Job}
 use Rattle.p4switch_run.specs.declared.words.Job.TheVariants as jobs
 use Rattle.command_words.specs.declared.words.Mode.{Mode}
 use Rattle.command_words.specs.Words.{command_of}
-use Rattle.p4switch_run.specs.Words.{built}
+use Rattle.p4switch_run.specs.Words.{job_for}
 use Rattle.serve_run.specs.declared.ending.ServeEnd.{ServeEnd}
 use Rattle.serve_run.specs.declared.ending.ServeEnd.TheVariants as ends
 use Rattle.serve_run.specs.declared.opening.Serving.{Serving}
 
 -- the words, behind the program's name, ask for a replay in this mode that starts so
 abbrev pub IsReplay : Mode → Start → List (List ℕ) → Type 0
-IsReplay mode start words = built (command_of words) ≡ Some (jobs.Replay mode start)
+IsReplay mode start words = job_for (command_of words) ≡ Some (jobs.Replay mode start)
 
 -- the words ask for the check of a configuration
 abbrev pub IsCheck : List (List ℕ) → Type 0
-IsCheck words = built (command_of words) ≡ Some jobs.Check
+IsCheck words = job_for (command_of words) ≡ Some jobs.Check
 
 -- the words ask for serving
 abbrev pub IsServe : List (List ℕ) → Type 0
-IsServe words = (serving : Serving) × (built (command_of words) ≡ Some (jobs.Serve serving))
+IsServe words = (serving : Serving) × (job_for (command_of words) ≡ Some (jobs.Serve serving))
 
--- the words are a command that is built
+-- the words ask for the run of the tape of a number
+abbrev pub IsGen : ℕ → List (List ℕ) → Type 0
+IsGen number words = job_for (command_of words) ≡ Some (jobs.Gen number)
+
+-- the words are a command
 abbrev pub IsCommand : List (List ℕ) → Type 0
-IsCommand words = (job : Job) × (built (command_of words) ≡ Some job)
+IsCommand words = (job : Job) × (job_for (command_of words) ≡ Some job)
 
 -- the exit status
 abbrev pub status_number : Status → ℕ

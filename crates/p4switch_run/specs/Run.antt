@@ -15,9 +15,10 @@ use Rattle.p4switch_run.specs.declared.words.Job.{Job}
 use Rattle.p4switch_run.specs.declared.words.Job.TheVariants as jobs
 use Rattle.command_words.specs.declared.words.Mode.{Mode}
 use Rattle.p4switch_run.specs.Check.{Checks, IsJudged, IsJudgedShort, IsRefused, IsTakenUp, ended_status}
-use Rattle.p4switch_run.specs.Command.{IsReplay, IsCheck, IsServe, status_number, fault_status, status_line}
+use Rattle.p4switch_run.specs.Command.{IsReplay, IsCheck, IsServe, IsGen, status_number, fault_status, status_line}
+use Rattle.p4switch_run.specs.Load.{Sums, IsSummed, IsSummedShort}
 use Rattle.command_words.specs.Words.{command_of}
-use Rattle.p4switch_run.specs.Words.{built}
+use Rattle.p4switch_run.specs.Words.{job_for}
 use Rattle.p4switch_run.specs.Replay.{Streams, Answers, IsWritten, IsCutShort, ReadWith}
 use Rattle.p4switch_run.specs.Tell.{IsSaid}
 
@@ -25,12 +26,19 @@ use Rattle.p4switch_run.specs.Tell.{IsSaid}
 abbrev pub IsServeStatus : Status → Type 0
 IsServeStatus status = (status ≡ statuses.Done) ⊎ ((status ≡ statuses.NoMemory) ⊎ (status ≡ statuses.NetFault))
 
--- What a job says of its answer; serving leaves what is read and written as it was. Without one the words are refused, and all is left as it was.
+-- nothing was read, and the source has neither failed nor ended
+pub record ReadsNothing (old new : Streams) : Type 0 where
+  pub left : new.left ≡ old.left
+  pub sound_source : new.read_faults ≡ old.read_faults
+  pub not_ended : new.read_ends ≡ old.read_ends
+
+-- What a job says of its answer; a made tape is not read, and serving leaves what is read and written as it was. Without one the words are refused, and all is left as it was.
 abbrev pub EndsBy : Option Job → Status → Streams → Streams → Type 0
 EndsBy None status old new = (status ≡ statuses.WordsRefused) × (new ≡ old)
 EndsBy (Some (jobs.Replay mode start)) status old new = Answers mode start status old new
 EndsBy (Some jobs.Check) status old new = Checks status old new
 EndsBy (Some (jobs.Serve serving)) status old new = IsServeStatus status × (new ≡ old)
+EndsBy (Some (jobs.Gen number)) status old new = Sums number status old.sent new.sent old.write_faults new.write_faults × ReadsNothing old new
 
 -- how often a net ended and failed, before and after it was served
 pub record IsServed (status : Status) (ends_before ends_after faults_before faults_after : ℕ) : Type 0 where
@@ -44,6 +52,7 @@ abbrev pub NetBy : Option Job → Status → ℕ → ℕ → ℕ → ℕ → Typ
 NetBy None status ends_before ends_after faults_before faults_after = (ends_after ≡ ends_before) × (faults_after ≡ faults_before)
 NetBy (Some (jobs.Replay mode start)) status ends_before ends_after faults_before faults_after = (ends_after ≡ ends_before) × (faults_after ≡ faults_before)
 NetBy (Some jobs.Check) status ends_before ends_after faults_before faults_after = (ends_after ≡ ends_before) × (faults_after ≡ faults_before)
+NetBy (Some (jobs.Gen number)) status ends_before ends_after faults_before faults_after = (ends_after ≡ ends_before) × (faults_after ≡ faults_before)
 NetBy (Some (jobs.Serve serving)) status ends_before ends_after faults_before faults_after = IsServed status ends_before ends_after faults_before faults_after
 
 -- what no job but serving uses is as it was
@@ -51,15 +60,16 @@ abbrev pub IsUnusedBy : {A : Type 0} → Option Job → A → A → Type 0
 IsUnusedBy None old new = new ≡ old
 IsUnusedBy (Some (jobs.Replay mode start)) old new = new ≡ old
 IsUnusedBy (Some jobs.Check) old new = new ≡ old
+IsUnusedBy (Some (jobs.Gen number)) old new = new ≡ old
 IsUnusedBy (Some (jobs.Serve serving)) old new = Unit {0}
 
 -- what the answer to these words says of a net
 abbrev pub NetEnds : Status → List (List ℕ) → ℕ → ℕ → ℕ → ℕ → Type 0
-NetEnds status words ends_before ends_after faults_before faults_after = NetBy (built (command_of words)) status ends_before ends_after faults_before faults_after
+NetEnds status words ends_before ends_after faults_before faults_after = NetBy (job_for (command_of words)) status ends_before ends_after faults_before faults_after
 
 -- words that do not ask for serving leave this as it was
 abbrev pub IsUnused : {A : Type 0} → List (List ℕ) → A → A → Type 0
-IsUnused words old new = IsUnusedBy (built (command_of words)) old new
+IsUnused words old new = IsUnusedBy (job_for (command_of words)) old new
 
 -- the words ask for serving, and the net ended
 pub record Serves (words : List (List ℕ)) (ends_before ends_after : ℕ) : Type 0 where
@@ -68,7 +78,7 @@ pub record Serves (words : List (List ℕ)) (ends_before ends_after : ℕ) : Typ
 
 -- what the answer to these words says of what was read and written
 abbrev pub Ends : Status → List (List ℕ) → Streams → Streams → Type 0
-Ends status words old new = EndsBy (built (command_of words)) status old new
+Ends status words old new = EndsBy (job_for (command_of words)) status old new
 
 -- the report of the replay that the words ask for was written
 pub record Reports (words : List (List ℕ)) (old new : Streams) : Type 0 where
@@ -93,6 +103,18 @@ pub record Approves (words : List (List ℕ)) (old new : Streams) : Type 0 where
 pub record BreaksLine (words : List (List ℕ)) (old new : Streams) : Type 0 where
   pub command : IsCheck words
   pub short : IsJudgedShort old new
+
+-- the words ask for the run of the tape of a number, and the summary of its report was written
+pub record SumsUp (words : List (List ℕ)) (old new : Streams) : Type 0 where
+  pub number : ℕ
+  pub command : IsGen number words
+  pub summed : IsSummed number old.sent new.sent old.write_faults new.write_faults
+
+-- some first bytes of it were
+pub record BreaksSummary (words : List (List ℕ)) (old new : Streams) : Type 0 where
+  pub number : ℕ
+  pub command : IsGen number words
+  pub short : IsSummedShort number old.sent new.sent old.write_faults new.write_faults
 
 -- the statuses of what was not read whole
 abbrev pub IsUnread : ℕ → Type 0

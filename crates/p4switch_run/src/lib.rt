@@ -3,6 +3,7 @@
 
 mod check;
 pub mod laws;
+mod load;
 mod process;
 mod program;
 mod replay;

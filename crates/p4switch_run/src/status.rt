@@ -8,17 +8,18 @@ use tape_form::TapeFault;
 /// How a run ends, and with which exit status.
 #[derive(Clone, Copy)]
 pub enum Status {
-    /// 0: the tape was read whole and its report was written, or the configuration and its line, or the net that was served ended.
+    /// 0: the tape was read whole and its report was written, or the configuration and its line, or the net that was served ended, or the
+    /// summary of a made tape's run was written.
     Done,
     /// 1: the bytes are no tape; the longest front of them with which some tape begins has so many bytes.
     NotATape(u64),
-    /// 2: the words are not in the grammar, or are a command that is not built.
+    /// 2: the words are not in the grammar.
     WordsRefused,
     /// 3: there was no memory.
     NoMemory,
     /// 4: the source of the tape or of the configuration failed.
     ReadFault,
-    /// 5: the sink of the report or of the line failed.
+    /// 5: the sink of the report, of the line or of the summary failed.
     WriteFault,
     /// 6: the tape has more bytes or records than a tape may have, or the configuration more bytes.
     TooLong,

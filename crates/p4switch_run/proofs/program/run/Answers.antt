@@ -150,3 +150,17 @@ returns-clause-untouched g c =
     let old = streams (g.S.Source.left c.args.tape.now) (g.O.Sink.sent c.args.out.now) (g.S.Source.faults c.args.tape.now) (g.O.Sink.faults c.args.out.now) (g.S.Source.ends c.args.tape.now) in
     let new = streams (g.S.Source.left c.status_of-status.new.tape) (g.O.Sink.sent c.status_of-status.new.out) (g.S.Source.faults c.status_of-status.new.tape) (g.O.Sink.faults c.status_of-status.new.out) (g.S.Source.ends c.status_of-status.new.tape) in
     λ e. endings.untouched _ c.status_of-status.result old new c.status_of-status.ensures.ends (sym c.number.ensures ∙ e)
+
+pub returns-clause-unread : goal.returns-clause-unread
+returns-clause-unread g c number command =
+    let old = streams (g.S.Source.left c.args.tape.now) (g.O.Sink.sent c.args.out.now) (g.S.Source.faults c.args.tape.now) (g.O.Sink.faults c.args.out.now) (g.S.Source.ends c.args.tape.now) in
+    let new = streams (g.S.Source.left c.status_of-status.new.tape) (g.O.Sink.sent c.status_of-status.new.out) (g.S.Source.faults c.status_of-status.new.tape) (g.O.Sink.faults c.status_of-status.new.out) (g.S.Source.ends c.status_of-status.new.tape) in
+    let words = map (λ word. word.now) c.args.words.now in
+    endings.unread _ c.status_of-status.result words old new refl c.status_of-status.ensures.ends number command
+
+pub returns-clause-summed : goal.returns-clause-summed
+returns-clause-summed g c number command =
+    let old = streams (g.S.Source.left c.args.tape.now) (g.O.Sink.sent c.args.out.now) (g.S.Source.faults c.args.tape.now) (g.O.Sink.faults c.args.out.now) (g.S.Source.ends c.args.tape.now) in
+    let new = streams (g.S.Source.left c.status_of-status.new.tape) (g.O.Sink.sent c.status_of-status.new.out) (g.S.Source.faults c.status_of-status.new.tape) (g.O.Sink.faults c.status_of-status.new.out) (g.S.Source.ends c.status_of-status.new.tape) in
+    let words = map (λ word. word.now) c.args.words.now in
+    rw c.number.ensures (endings.gen_summed _ c.status_of-status.result words old new refl c.status_of-status.ensures.ends number command)
