@@ -17,7 +17,7 @@ _p4switch() {
   [ "${COMP_WORDS[1]-}" != --preview ] || at=2
   command=${COMP_WORDS[at]-}
   if [ "$COMP_CWORD" -le $at ]; then
-    _p4_offer "serve replay check --help --version $([ $at = 2 ] || echo --preview)"
+    _p4_offer "serve replay check gen --help --version $([ $at = 2 ] || echo --preview)"
     return
   fi
   case $previous in

@@ -6,7 +6,8 @@ usage_of() {
     serve) echo "usage: p4switch serve --port N [--packets N] [--workers N] [--device N] [--cpu N] [--rows N]" ;;
     replay) echo "usage: p4switch replay [--lockstep] [--bridge] [--device N] [--cpu N] [--rows N] < TAPE > REPORT" ;;
     check) echo "usage: p4switch check < CONFIG" ;;
-    *) echo "usage: p4switch [--preview] serve|replay|check .. (p4switch --help says more)" ;;
+    gen) echo "usage: p4switch gen N" ;;
+    *) echo "usage: p4switch [--preview] serve|replay|check|gen .. (p4switch --help says more)" ;;
   esac
 }
 
@@ -24,6 +25,8 @@ p4switch replay [--lockstep] [--bridge] [--device N] [--cpu N] [--rows N] < TAPE
     --bridge      starts with the built-in Ethernet bridge
 p4switch check < CONFIG
     says ok, or the rule that a configuration breaks first
+p4switch gen N
+    makes a load of 100 N routes and 400 N packets, N from 1 to 64, runs it in lockstep, and counts what came of it
 
     --device N    the device id, 1 or more (1)
     --cpu N       the port of the controllers, 1 to 510 (255)
@@ -66,6 +69,12 @@ wrong_word() {
   case $command in
     replay | serve) shift ;;
     check) [ $# -lt 2 ] || echo "check takes no words, and $2 is one; the configuration comes on standard input"; return ;;
+    gen)
+      if [ $# -lt 2 ]; then echo "gen needs a number"
+      elif [ $# -gt 2 ]; then echo "gen takes one number, and $3 stands behind it"
+      else number_in "$2" 1 64 || echo "gen takes a number from 1 to 64, and $2 is none"
+      fi
+      return ;;
     "") echo "a command is missing"; return ;;
     -*) echo "a command stands first, and $command is none"; return ;;
     *) echo "there is no command $command"; return ;;

@@ -36,6 +36,12 @@ class Rows(unittest.TestCase):
         self.assertIn("\n" + "\n".join(asked) + "\n", stored("switch_rows", "stdin"))
         self.assertIn("\n" + computed("packet_rows.py", "stdout"), stored("switch_rows", "stdout"))
 
+    def test_places(self):
+        """The rows of one call that fails, of connections that are cut, and of tapes at the limits stand there, too."""
+        for name in ("stdin", "stdout"):
+            with self.subTest(name):
+                self.assertIn("\n" + computed("fault_rows.py", name), stored("switch_rows", name))
+
     def test_grammar(self):
         """The grammar that random_bytes.py reads gives the stored answers to tapes, good and bad."""
         answers, judged = random_bytes.answers(), 0

@@ -47,8 +47,10 @@ WRONG = {
     "serve --port 9559 --port 9560": "--port is given twice", "serve --port 9559 --workers 17": "--workers takes a number from 1 to 16, and 17 is none",
     "serve --port 9559 --packets 65535": "--packets takes a number from 1 to 65534, and 65535 is none",
     "serve --port 9559 --lockstep": "serve has no option --lockstep", "serve --port +5": "and +5 is none",
+    "gen": "gen needs a number", "gen 0": "gen takes a number from 1 to 64, and 0 is none", "gen 65": "and 65 is none", "gen 01": "and 01 is none",
+    "gen 1 --bridge": "gen takes one number, and --bridge stands behind it",
 }
-RIGHT = ["check", "replay", "replay --lockstep --bridge --device 9999999999999999999 --cpu 510 --rows 262144", "replay --rows 1024"]
+RIGHT = ["check", "gen 1", "replay", "replay --lockstep --bridge --device 9999999999999999999 --cpu 510 --rows 262144", "replay --rows 1024"]
 
 
 class Case(unittest.TestCase):
@@ -82,7 +84,7 @@ class Words(Case):
         for word in ("--help", "-h", "help"):
             status, out, said = self.run_it(word)
             self.assertEqual((status, said), (0, ""))
-            for wanted in ("p4switch serve --port N", "p4switch replay", "p4switch check", "docs/formats.md", "README.md"):
+            for wanted in ("p4switch serve --port N", "p4switch replay", "p4switch check", "p4switch gen N", "docs/formats.md", "README.md"):
                 self.assertIn(wanted, out)
         # Without words the status is the program's own for words that it refuses.
         status, nothing, said = self.run_it()
@@ -104,7 +106,7 @@ class Words(Case):
                 self.assertTrue(lines[2].startswith("usage: p4switch "), lines)
 
     def test_the_status_is_the_programs(self):
-        for words in (*RIGHT, "check now", "gen 5"):
+        for words in (*RIGHT, "check now", "gen 65"):
             status, out, said = self.run_it(*words.split())
             self.assertEqual((status, out, said), (5, words + "\n", ""))
 

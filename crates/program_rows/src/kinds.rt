@@ -28,6 +28,7 @@ pub fn answer<R: Files + AllocGlobal>(
 ) -> Result<(), NoAnswer> {
     let alloc = rt.alloc();
     match (kind, asked) {
+        ("text", [program]) => tell_program(alloc, None, program, told),
         ("program", [file]) => tell_program(alloc, None, &text_of(rt, file)?, told),
         ("changed", [file, old, new]) => {
             tell_program(alloc, None, &changed_of(rt, [file, old, new])?, told)

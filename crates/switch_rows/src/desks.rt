@@ -3,6 +3,7 @@
 ghost use Rattle.std.specs.Prelude.{◌≤◌, length};
 
 use crate::telling::LastRun;
+use link_loop::{LinkEnd, serve_link};
 use live_desk::{ClosedDesk, DeskWorker, LiveDesk, Naming};
 use mail_room::Next;
 use p4_types::calls::{Call, Reply};
@@ -11,7 +12,7 @@ use pkt_worker::Verdict;
 use serve_run::{LinkPass, PortsEnd, ServedDesk, serve_ports};
 use std::alloc::Global;
 use std::sync::Wait;
-use sw_edge::{Clock, Ports, Stop};
+use sw_edge::{Clock, Link, Ports, Stop};
 
 /// What makes the calls of a lane.
 pub trait RowPass: Drop {
@@ -68,6 +69,17 @@ pub trait RowDesk {
         worker: &mut Self::Worker,
         clock: &mut K,
     ) -> PortsEnd;
+
+    /// Serves a pass's link to its end.
+    fn serve<L: Link, P: Ports, K: Clock, W: Wait>(
+        &self,
+        rt: &W,
+        alloc: Global,
+        link: &mut L,
+        ports: &mut P,
+        pass: &mut Self::Pass,
+        clock: &mut K,
+    ) -> LinkEnd;
 
     /// Closes the desk.
     fn close(self) -> Self::Closed;
@@ -150,6 +162,20 @@ impl<J: Naming, R: Wait + Drop> RowDesk for LiveDesk<J, R> {
         clock: &mut K,
     ) -> PortsEnd {
         serve_ports(rt, alloc, ports, stop, self, worker, clock)
+    }
+
+    // It promises nothing, so that the rows do not carry what `serve_link` does.
+    #[tactic(none)]
+    fn serve<L: Link, P: Ports, K: Clock, W: Wait>(
+        &self,
+        rt: &W,
+        alloc: Global,
+        link: &mut L,
+        ports: &mut P,
+        pass: &mut LinkPass<J>,
+        clock: &mut K,
+    ) -> LinkEnd {
+        serve_link(rt, alloc, link, ports, &ServedDesk::new(self), pass, clock)
     }
 
     fn close(self) -> ClosedDesk<J> {

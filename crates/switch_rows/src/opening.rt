@@ -2,8 +2,8 @@
 //! of it.
 //!
 //! A row has what the desk opens with, and steps, with tabs between them. A desk opens with so many workers, and with the bridge or
-//! with no program (`1 bridge`, `2 -`); its device is 1, and packets of controllers enter at port 255. Each step is answered on a line
-//! of its own:
+//! with no program (`1 bridge`, `2 -`), and where a third word names them with so many slots of counters (`0 bridge 1024`); its device
+//! is 1, and packets of controllers enter at port 255. Each step is answered on a line of its own:
 //!
 //! - `call LANE METHOD HEX`, as a connection asks: the reply's code and messages, the notices that the caller is told with it, and the
 //!   packet that it makes enter. `leave LANE` is the end of the caller's stream.
@@ -13,12 +13,14 @@
 //!   what is put at a port. What it gives to controllers is handed on.
 //! - `run WORKER PORT HEX`: the same and the packet's fate, of a packet that comes at no ports. What it gives to controllers is handed on
 //!   only by `deliver WORKER NOW`.
+//! - `link LANE HEX`: a connection of these bytes, served by the lane to its end, which is told. `link LANE HEX WAY N` is one that is cut:
+//!   by `end` and `fault` it ends or fails behind N bytes, by `push` its bytes come one by one and its push N fails, from 0.
 //! - `tell LANE LANE`: the second learns what the first tells, and how many steps it then knows.
 //! - `repeat N STEP;STEP`: these steps so often, the same answers in a row told once, behind their number.
 //!
 //! METHOD is `write`, `read`, `set`, `get`, `stream` or `capabilities`, HEX is bytes, of which `.` has none, and NOW is in nanoseconds.
 //! In the end the desk is closed and each pass is compared with it, and the number of steps is told.
-ghost use Rattle.std.specs.Prelude.{◌≡◌, ◌≤◌, IfOk};
+ghost use Rattle.std.specs.Prelude.{◌≡◌, ◌<◌, ◌≤◌, IfOk};
 ghost use Rattle.live_desk.specs.Opening.{AreParts};
 
 use crate::desks::RowDesk;
@@ -36,6 +38,9 @@ use std::sync::Wait;
 
 /// How many workers a desk has at most.
 const MOST_WORKERS: usize = 16;
+
+/// How many slots of counters a desk has at most, and where it is not said how many.
+const MOST_SLOTS: u32 = 1_048_576;
 
 // Does the steps of a row at a desk with these passes, the highest lane first, and these workers, and closes it.
 fn answer_at<W: Wait, D: RowDesk>(
@@ -96,7 +101,7 @@ fn open_and_play<T: Wait>(
     told: &mut String,
 ) -> Result<(), NoAnswer>
     requires workers { workers ≤ 16 }
-    requires slots { start.slots ≡ 1048576 }
+    requires slots { (0 < start.slots) × (start.slots ≤ 1048576) }
 {
     let Ok((publisher, parts)) = open_parts(rt, alloc, &start, workers) else {
         return Err(NoAnswer);
@@ -104,18 +109,33 @@ fn open_and_play<T: Wait>(
     play::<Brand, T>(rt, alloc, start, publisher, parts, verdicts, steps, told)
 }
 
+// A program, and how many slots there are.
+fn slots_of(words: &str) -> Result<(&str, u32), NoAnswer>
+    ensures { IfOk result (λ r. (0 < r.1) × (r.1 ≤ 1048576)) }
+{
+    let Some((program, slots)) = words.split_once(' ') else {
+        return Ok((words, MOST_SLOTS));
+    };
+    let slots = slots.parse::<u32>()?;
+    if slots == 0 || slots > MOST_SLOTS {
+        return Err(NoAnswer);
+    }
+    Ok((program, slots))
+}
+
 // With what a desk opens, and with how many workers.
 fn opening_of(words: &str) -> Result<(usize, Start), NoAnswer>
-    ensures { IfOk result (λ r. r.1.slots ≡ 1048576) }
+    ensures { IfOk result (λ r. (0 < r.1.slots) × (r.1.slots ≤ 1048576)) }
 {
     let Some((workers, program)) = words.split_once(' ') else {
         return Err(NoAnswer);
     };
+    let (program, slots) = slots_of(program)?;
     let start = Start {
         device: 1,
         cpu: 255,
         rows: 1_024,
-        slots: 1_048_576,
+        slots,
         bridge: program == "bridge",
     };
     Ok((workers.parse::<usize>()?, start))

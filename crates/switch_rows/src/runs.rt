@@ -1,7 +1,7 @@
 //! A row of the whole program over memory: its status, its report and its line for these words and this tape. The desk of a
 //! run on threads, on one thread in the order of the tape, has to give the reports that a run in lockstep gives.
 //!
-//! A row has words between blanks, a tape in hex that is read seven bytes at a time, and the failing reads and writes of the
+//! A row has words between blanks, a tape in hex that is read seven bytes at a time, and the failing reads of it and pieces of the
 //! report. It is answered by the status, the lines of the report behind `> `, and the line behind `! `. Where the run was in
 //! lockstep and the desk gives another report, that is told too.
 ghost use Rattle.std.specs.Prelude.{◌≡◌};
@@ -14,16 +14,16 @@ use row_lines::{NoAnswer, bytes, numbers, say, tell};
 use std::alloc::Global;
 use std::sync::Wait;
 use std::thread::Threads;
-use sw_edge::{ListClock, MemoryNet, MemorySink, MemorySource};
+use sw_edge::{ListClock, MemoryNet, MemorySink, MemorySource, Source};
 use tape_form::{Tape, report_text};
 
-// The program over memory. It has no clause, so that the rows do not carry what `run` promises.
+/// The status of the program over memory. It has no clause, so that the rows do not carry what `run` promises.
 #[tactic(none)]
-fn status_of<T: Threads + Wait + Sync>(
+pub fn status_of<T: Threads + Wait + Sync, S: Source>(
     rt: &T,
     alloc: Global,
     words: &[&str],
-    tape: &mut MemorySource,
+    tape: &mut S,
     out: &mut MemorySink,
     err: &mut MemorySink,
 ) -> u8 {
@@ -109,8 +109,8 @@ fn desk_agrees<T: Threads + Wait + Sync>(
     Ok(given.as_slice() == report)
 }
 
-// Adds what came, line by line, each behind a mark.
-fn say_lines(told: &mut String, mark: &str, came: &[u8]) {
+/// Adds what came, line by line, each behind a mark.
+pub fn say_lines(told: &mut String, mark: &str, came: &[u8]) {
     let Ok(text) = std::str::from_utf8(came) else {
         say(told, "no text");
         return;
@@ -125,9 +125,9 @@ fn say_lines(told: &mut String, mark: &str, came: &[u8]) {
     }
 }
 
-// A sink with room for this many bytes, of which these writes fail.
-fn sink_of(alloc: Global, room: usize, writes: &str) -> Result<MemorySink, NoAnswer> {
-    let failing = numbers(alloc, writes)?;
+/// A sink with room for this many bytes, of which these pieces fail.
+pub fn sink_of(alloc: Global, room: usize, pieces: &str) -> Result<MemorySink, NoAnswer> {
+    let failing = numbers(alloc, pieces)?;
     Ok(MemorySink::new(alloc, room, failing)?)
 }
 
@@ -137,20 +137,17 @@ fn source_of(alloc: Global, tape: &str, reads: &str) -> Result<MemorySource, NoA
     Ok(MemorySource::in_pieces(bytes(alloc, tape)?, 7, failing))
 }
 
-// Tells what the program answers to these words and this tape, and gives its status. Its report is in the sink then.
-fn tell_run<T: Threads + Wait + Sync>(
+/// Tells what the program answers to these words and the tape of a source, and gives its status. Its report is in the sink then.
+pub fn tell_run<T: Threads + Wait + Sync, S: Source>(
     rt: &T,
     alloc: Global,
     words: &[&str],
-    tape: &str,
-    reads: &str,
+    source: &mut S,
     out: &mut MemorySink,
     told: &mut String,
 ) -> Result<u8, NoAnswer> {
-    let mut source = source_of(alloc, tape, reads)?;
     let mut err = sink_of(alloc, 4_096, "")?;
-    let status = status_of(rt, alloc, words, &mut source, out, &mut err);
-    drop(source);
+    let status = status_of(rt, alloc, words, source, out, &mut err);
     tell(told, status);
     say_lines(told, "> ", out.sent());
     say_lines(told, "! ", err.sent());
@@ -164,12 +161,13 @@ pub fn answer<T: Threads + Wait + Sync>(
     asked: &[&str],
     told: &mut String,
 ) -> Result<(), NoAnswer> {
-    let [words, tape, reads, writes] = asked else {
+    let [words, tape, reads, pieces] = asked else {
         return Err(NoAnswer);
     };
     let words = words_of(alloc, words)?;
-    let mut out = sink_of(alloc, 65_536, writes)?;
-    let status = tell_run(rt, alloc, &words, tape, reads, &mut out, told)?;
+    let mut out = sink_of(alloc, 65_536, pieces)?;
+    let mut source = source_of(alloc, tape, reads)?;
+    let status = tell_run(rt, alloc, &words, &mut source, &mut out, told)?;
     if status == 0 && words.contains(&"--lockstep") {
         if !desk_agrees(rt, alloc, &words, tape, out.sent())? {
             say(told, "but not by the desk");

@@ -1,6 +1,7 @@
 //! A desk with those who use it, by their numbers.
 use crate::desks::{RowDesk, RowEnd, RowPass, RowWorker};
 use crate::telling::LastRun;
+use link_loop::LinkEnd;
 use mail_room::Next;
 use p4_types::calls::{Call, Reply};
 use pkt_worker::Verdict;
@@ -9,7 +10,7 @@ use row_lines::NoAnswer;
 use serve_run::PortsEnd;
 use std::alloc::Global;
 use std::sync::Wait;
-use sw_edge::{ListClock, MAX_PACKET, MemoryPorts};
+use sw_edge::{Link, ListClock, MAX_PACKET, MemoryPorts};
 
 /// What the steps of a row ask for, with lanes and workers by their numbers. There is no answer where there is no such lane or worker.
 pub trait Stage {
@@ -42,6 +43,9 @@ pub trait Stage {
 
     /// Hands on what that packet gives to controllers, at a moment.
     fn deliver(&self, worker: usize, now: u64) -> Option<()>;
+
+    /// Serves a lane's link to its end. Its packets leave at no ports.
+    fn serve<L: Link>(&mut self, alloc: Global, lane: usize, link: &mut L) -> Option<LinkEnd>;
 }
 
 /// A desk, its passes by rising lane, its workers, what became of the last packet of each of them that came at no ports, and what
@@ -85,6 +89,19 @@ fn carry_to_end<W: Wait, D: RowDesk>(
         return Err(NoAnswer);
     };
     Ok(worker.last_run())
+}
+
+// Serves a link of a pass to its end, beside ports at which no packet comes.
+fn serve_to_end<W: Wait, D: RowDesk, L: Link>(
+    rt: &W,
+    alloc: Global,
+    desk: &D,
+    pass: &mut D::Pass,
+    link: &mut L,
+) -> Result<LinkEnd, NoAnswer> {
+    let mut clock = ListClock::new(Vec::new(alloc));
+    let mut ports = MemoryPorts::new(alloc, Vec::new(alloc), 0, Vec::new(alloc), Vec::new(alloc))?;
+    Ok(desk.serve(rt, alloc, link, &mut ports, pass, &mut clock))
 }
 
 // Compares each pass with a desk that was closed, and gives how many steps there were.
@@ -183,5 +200,10 @@ impl<'a, W: Wait, D: RowDesk> Stage for DeskStage<'a, W, D> {
         let worker = self.workers.get(worker)?;
         self.desk.hand_on(worker.last_run().primary, verdict, now);
         Some(())
+    }
+
+    fn serve<L: Link>(&mut self, alloc: Global, lane: usize, link: &mut L) -> Option<LinkEnd> {
+        let pass = self.passes.get_mut(lane)?;
+        serve_to_end(self.rt, alloc, &self.desk, pass, link).ok()
     }
 }

@@ -1,4 +1,5 @@
 //! The steps of a row of a desk.
+use crate::links::link;
 use crate::stage::Stage;
 use crate::telling::{tell_next, tell_number, tell_output, tell_reply, tell_run, tell_verdict};
 use crate::words::words_of;
@@ -18,6 +19,7 @@ enum Verb {
     Run,
     Deliver,
     Tell,
+    Link,
 }
 
 fn verb_of(word: &str) -> Result<Verb, NoAnswer> {
@@ -29,6 +31,7 @@ fn verb_of(word: &str) -> Result<Verb, NoAnswer> {
         "run" => Ok(Verb::Run),
         "deliver" => Ok(Verb::Deliver),
         "tell" => Ok(Verb::Tell),
+        "link" => Ok(Verb::Link),
         _ => Err(NoAnswer),
     }
 }
@@ -274,6 +277,7 @@ fn do_words<S: Stage>(
         Verb::Run => run(alloc, stage, words, told),
         Verb::Deliver => deliver(stage, words, told),
         Verb::Tell => tell(stage, words, told),
+        Verb::Link => link(alloc, stage, words, told),
     }
 }
 
