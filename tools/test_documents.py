@@ -24,7 +24,8 @@ LONGEST_README, WIDEST_README = 150, 200
 # Pages whose sentences have at most so many words.
 LONGEST_SENTENCE = 30
 SHORT = ["README.md", "docs/quickstart.md", "docs/serving.md", "docs/glossary.md", "docs/compare.md", "docs/proved.md", "docs/tested.md",
-         "docs/measured.md", "docs/gate.md", "docs/map.md", "docs/edits.md", "docs/DECISIONS.md", "examples/README.md"]
+         "docs/measured.md", "docs/gate.md", "docs/audit.md", "docs/front.md", "docs/live.md", "docs/map.md", "docs/edits.md", "docs/DECISIONS.md", "SECURITY.md",
+         "CONTRIBUTING.md", "examples/README.md"]
 # Pages whose words of the code are there, and what in them is written like one and is none.
 OF_THE_CODE = ["docs/DECISIONS.md", "docs/definitions.md", "docs/answers.md", "docs/proved.md", "docs/tested.md", "docs/map.md", "docs/glossary.md", "docs/audit.md", "docs/gate.md",
                "CONTRIBUTING.md"]

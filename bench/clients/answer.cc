@@ -72,6 +72,7 @@ int main(int count, char** words) {
   }
   grpc::AsyncGenericService service;
   grpc::ServerBuilder builder;
+  builder.SetMaxReceiveMessageSize(-1);
   builder.AddListeningPort("127.0.0.1:" + std::string(words[1]), grpc::InsecureServerCredentials());
   builder.RegisterAsyncGenericService(&service);
   std::vector<std::unique_ptr<ServerCompletionQueue>> queues;

@@ -16,19 +16,13 @@ import time
 
 import p4client
 from p4client import INSERT, MODIFY, Controller, Difference, Program, call_out, expect, expect_arbitration, fresh_election
+from serving import processor_seconds
 
 from front_stand_in import Door, make_certificates  # (p4client has put its folder on the path)
 from p4tools import tape
 
 ROUTE = "ipv4_lpm dst=10.1.0.0/16 route(port={}, mac=02:00:00:00:00:03)"
 AT_A_TIME = 16
-
-
-def processor_seconds(pid):
-    """The processor time of a process so far."""
-    with open(f"/proc/{pid}/stat", encoding="ascii") as it:
-        words = it.read().rpartition(")")[2].split()
-    return (int(words[11]) + int(words[12])) / os.sysconf("SC_CLK_TCK")
 
 
 class Cost:
