@@ -55,7 +55,7 @@ pub(crate) fn take_events<D: Desk>(
     Ok(())
 }
 
-/// What the next bytes of a piece give of the connection, and how many these are: all of them behind a breach, else only the last of them
+/// What the next bytes of a piece give of the connection, and how many these are. Only the last of them
 /// gives anything.
 pub(crate) fn read_some(
     alloc: Global,
