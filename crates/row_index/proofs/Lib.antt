@@ -1,0 +1,16 @@
+pub mod Reaching
+pub mod Threading
+pub mod Opening
+pub mod Bits
+pub mod Ranks
+pub mod Among
+pub mod Asking
+pub mod Shaping
+pub mod Fingerprints
+pub mod Counting
+pub mod Walking
+pub mod Covering
+pub mod Answering
+pub mod Indexing
+pub mod Named
+pub mod Flat

@@ -1,0 +1,11 @@
+pub mod Reach
+pub mod Places
+pub mod Aims
+pub mod Threads
+pub mod Cuts
+pub mod Asks
+pub mod Shapes
+pub mod Index
+pub mod Best
+pub mod Search
+pub mod Laws
