@@ -233,7 +233,7 @@ def reads_of_1000(it):
 
 def silent(it, opening, drip=b""):
     """32 peers that come and then say nothing, or a byte every 5 seconds: when a stock client is served."""
-    it.stop_asking()
+    it.ask_nobody()
     peers = [Connection(it.port) for _ in range(LINKS)]
     for peer in peers:
         peer.send(opening)
@@ -274,7 +274,7 @@ def dripping_peers(it):
 @case
 def idle_controllers(it):
     """31 controllers with open channels that say nothing: none is to be ended"""
-    it.stop_asking()
+    it.ask_nobody()
     peers = [begun(it.port) for _ in range(LINKS - 1 - it.holds)]
     for number, peer in enumerate(peers):
         stream = peer.open_stream("StreamChannel")
@@ -383,7 +383,7 @@ def both(it):
 
 def come_and_go(it, count):
     """Peers that come all at once, and go again."""
-    it.stop_asking()
+    it.ask_nobody()
     peers = []
     for _ in range(count):
         with contextlib.suppress(OSError):
@@ -411,7 +411,7 @@ def few_threads(it):
 @case
 def signal_at_the_end(it):
     """TERM while a controller's channel is open"""
-    it.stop_asking()
+    it.ask_nobody()
     peer = begun(it.port)
     stream = peer.open_stream("StreamChannel")
     request = p4.StreamRequest()
@@ -455,10 +455,11 @@ class Attacked:
         self.until, self.asking, self.waits, self.watching = 0, None, {}, False
 
     def write(self, count):
-        """Entries of the router."""
+        """Writes entries of the router. The attack's time begins behind that."""
         updates = [self.program.update(INSERT, f"ipv4_lpm dst=10.{it >> 8}.{it & 255}.0/24 route(port=3, mac={MAC})") for it in range(count)]
         for at in range(0, count, 4096):
             self.controller.write(updates[at:at + 4096])
+        self.until = time.monotonic() + self.seconds
 
     def goes_on(self):
         return time.monotonic() < self.until and not self.killed
@@ -490,6 +491,11 @@ class Attacked:
         if self.asking:
             told = self.asking.communicate("\n")[0]
             self.waits, self.asking = json.loads(told or "{}"), None
+
+    def ask_nobody(self):
+        """Ends the other client where its place is needed, and keeps nothing of it."""
+        self.stop_asking()
+        self.waits = {}
 
     def ask_stock(self, seconds):
         """Asks as a stock client does, over a connection of its own."""

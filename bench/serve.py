@@ -133,9 +133,9 @@ class Bench:
         """Takes a figure of both by turns, and tells the middle ones and their ratio. With `most` a small one is good."""
         taken = [(ours(), other()) for _ in range(self.turns)]
         mine, its = (statistics.median(it) for it in zip(*taken))
-        ratios = sorted(one / max(two, 1e-9) for one, two in taken)
-        print(f"{what}: {short(mine)} {unit}, the yardstick {short(its)}: {mine / max(its, 1e-9):.2f} times "
-              f"({ratios[0]:.2f} to {ratios[-1]:.2f}){', less is better' if most else ''}", flush=True)
+        ratios = sorted(one / two for one, two in taken if two)
+        told = f"{mine / its:.2f} times ({ratios[0]:.2f} to {ratios[-1]:.2f})" if its else "too little for a ratio"
+        print(f"{what}: {short(mine)} {unit}, the yardstick {short(its)}: {told}{', less is better' if most else ''}", flush=True)
         return mine
 
     # Calls.
