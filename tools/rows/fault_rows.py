@@ -1,8 +1,8 @@
 #!/usr/bin/env python3
-"""fault_rows.py stdin|stdout
+"""fault_rows.py stdin|stdout [all]
 
 Prints rows of crates/switch_rows in which one call fails, at each place in turn, and rows of tapes at the limits of a tape; or what is
-to be answered to them. It is computed here, over nothing of the switch, from lengths: how many reads give what is read, how many pieces
+to be answered to them. With "all" the rows that take minutes are among them, which the crate does not hold. It is computed here, over nothing of the switch, from lengths: how many reads give what is read, how many pieces
 make up what is written, and which byte of a connection completes which call.
 
 The client of the cut connections opens a stream channel, becomes the primary of role 0 by the election id 2 and inserts three entries
@@ -62,12 +62,14 @@ def writes(name, words, data, status, report):
     return asked, in_turn([(failing, "5 cut there", "! p4switch: write fault"), (1, f"{status} whole")])
 
 
-def calls_in_turn():
+def calls_in_turn(whole):
     tape, router = content(ONE_ENTRY), config_of("router")
     for piece in (7, 1):
         yield reads(f"one entry, by {piece}", IN_LOCKSTEP, piece, tape, ONE_ENTRY_REPORT)
         yield reads(f"one entry, free, by {piece}", FREE, piece, tape, [], False)
-        yield reads(f"a router that is checked, by {piece}", "check", piece, router, ["ok"])
+        if whole:
+            yield reads(f"a router that is checked, by {piece}", "check", piece, router, ["ok"])
+    yield reads("a bridge that is checked, by 7", "check", 7, config_of("bridge"), ["ok"])
     yield writes("one entry", IN_LOCKSTEP, tape, 0, ONE_ENTRY_REPORT)
     yield writes("a bridge that is checked", "check", config_of("bridge"), 0, ["ok"])
     yield writes("a refused configuration", "check", raw(2, b"{}"), 8, ["refused I1"])
@@ -180,21 +182,24 @@ def cuts(way, atomicity):
 
 # ---- tapes at the limits
 
-def at_limits():
+def at_limits(whole):
     for name, (front, record, count, back), (status, told) in limit_tapes.tapes():
+        if not whole and name != "longest-packet":
+            continue
         asked = f"repeated\t{name}\t{limit_tapes.BY_BRIDGE}\t{front.hex()}\t{record.hex()}\t{count}\t{back.hex()}"
         yield asked, [str(status), *told.split("\n")]
 
 
-def tables():
+def tables(whole):
     """The remark over each table, and its rows with their answers."""
-    yield "A call of the program that fails, at each place in turn (tools/rows/fault_rows.py).", list(calls_in_turn())
-    yield "A connection that is cut at each place in turn.", [cuts(way, atomicity) for atomicity in (ONE_BY_ONE, ATOMIC) for way in ("end", "fault", "push")]
-    yield "A tape that is made while it is read.", list(at_limits())
+    ways = ("end", "fault", "push") if whole else ("push",)
+    yield "A call of the program that fails, at each place in turn (tools/rows/fault_rows.py).", list(calls_in_turn(whole))
+    yield "A connection that is cut at each place in turn.", [cuts(way, atomicity) for atomicity in (ONE_BY_ONE, ATOMIC) for way in ways]
+    yield "A tape that is made while it is read.", list(at_limits(whole))
 
 
-def lines_of(which):
-    for remark, rows in tables():
+def lines_of(which, whole):
+    for remark, rows in tables(whole):
         if which == "stdin":
             yield "# " + remark
         for asked, (first, *more) in rows:
@@ -204,9 +209,10 @@ def lines_of(which):
 
 
 def main():
-    if sys.argv[1:] not in (["stdin"], ["stdout"]):
+    which, *more = sys.argv[1:] or [""]
+    if which not in ("stdin", "stdout") or more not in ([], ["all"]):
         sys.exit(__doc__)
-    print("\n".join(lines_of(sys.argv[1])))
+    print("\n".join(lines_of(which, bool(more))))
 
 
 if __name__ == "__main__":
