@@ -525,12 +525,11 @@ class Attacked:
             became = f"the attack broke off: {type(error).__name__}"
         self.stop_asking()
         alive = not self.killed and not self.ended and self.switch.process.poll() is None
-        peak = resident(self.switch.pid, "VmHWM") if alive else None
         if alive and self.stock == "not asked":
             self.ask_stock(PATIENCE)
             became += f"; behind it a stock client was {self.stock}"
         time.sleep(2)
-        after = resident(self.switch.pid) if alive else None
+        peak, after = (resident(self.switch.pid, it) for it in ("VmHWM", "VmRSS")) if alive else (None, None)
         self.watching = False
         watcher.join()
         if self.killed:
