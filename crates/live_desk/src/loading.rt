@@ -2,35 +2,13 @@
 ghost use Rattle.std.specs.Prelude.{◌≡◌, ◌≤◌, length, IfSome, true};
 ghost use Rattle.live_desk.specs.Sums.{HasLooked, reads_counters};
 ghost use Rattle.snap_worker.specs.Sums.{AreSums, NotesOwn, noted_by};
-ghost use Rattle.switch_spec.specs.Reading.{is_counter};
 
 use counter_bank::Bank;
 use p4_types::calls::Call;
-use p4_types::messages::Entity;
 use snap_worker::{Loaded, Worker};
 use std::alloc::Global;
 
-// Whether an entity that is asked for is a counter.
-fn is_counter(asked: &Option<Entity>) -> bool
-    ensures { result ≡ is_counter asked.now }
-{
-    matches!(
-        asked,
-        Some(Entity::CounterEntry(_)) | Some(Entity::DirectCounterEntry(_))
-    )
-}
-
-// Whether a call reads counters.
-fn reads_counters(call: &Call) -> bool
-    ensures { result ≡ reads_counters call.now }
-{
-    match call {
-        Call::Read(request) => request.entities.as_slice().iter().any(is_counter),
-        _ => false,
-    }
-}
-
-/// The figures that a call sees: those of so many slots, where it reads counters, else none. There are none to be had without memory for them.
+/// The figures that a call sees: those of so many slots, where it reads, else none. There are none to be had without memory for them.
 pub(crate) fn look(
     alloc: Global,
     bank: &Bank,
@@ -45,7 +23,7 @@ pub(crate) fn look(
     ensures own { IfSome result (λ loaded. NotesOwn (length loaded) worker.new.seat) }
     ensures drawn { IfSome result (λ loaded. reads_counters call.now ≡ true → length loaded ≡ slots) }
 {
-    if !reads_counters(call) {
+    if !matches!(call, Call::Read(_)) {
         return Some(Loaded::none(alloc));
     }
     worker.load(alloc, bank, slots).ok()
