@@ -68,6 +68,12 @@ def drain(peer):
     peer.socket.settimeout(20)
 
 
+def close(peers):
+    """The attackers go."""
+    for peer in peers:
+        peer.close()
+
+
 def flood(it, opening, piece, takes=True, count=1):
     """Sends a piece over and over on connections behind their opening, and takes what comes; where the switch ends a connection,
     or takes no more of it, all are begun anew. `opening` and `piece` are functions of a connection."""
@@ -86,11 +92,9 @@ def flood(it, opening, piece, takes=True, count=1):
                     drain(peer)
         except OSError as error:
             ends, waits = ends + (not isinstance(error, TimeoutError)), waits + isinstance(error, TimeoutError)
-            for peer in peers:
-                peer.close()
+            close(peers)
             peers = []
-    for peer in peers:
-        peer.close()
+    close(peers)
     return f"{sent / 2**20:,.1f} MiB sent, {ends} connections ended by the switch" + f", {waits} not read any more" * (waits > 0)
 
 
@@ -248,8 +252,7 @@ def silent(it, opening, drip=b""):
                     peer.send(drip[dripped:dripped + 1] or b"\x00")
             dripped += 1
     told = f"a stock client was {it.stock} after {time.monotonic() - began:.1f} s"
-    for peer in peers:
-        peer.close()
+    close(peers)
     return told
 
 
@@ -329,8 +332,7 @@ def unfinished_messages(it):
     kept = list(peers)
     sent = unfinished(it, peers)
     told = f"{sent / 2**20:,.0f} MiB sent"
-    for peer in kept:
-        peer.close()
+    close(kept)
     return told
 
 
@@ -361,8 +363,7 @@ def shut_windows(it):
     peers = [begun(it.port, 0) for _ in range(LINKS - 2)]
     kept = list(peers)
     told = f"{shut(it, peers):,} Reads asked"
-    for peer in kept:
-        peer.close()
+    close(kept)
     return told
 
 
@@ -376,8 +377,7 @@ def both(it):
     asks.start()
     sent = unfinished(it, one)
     asks.join()
-    for peer in kept:
-        peer.close()
+    close(kept)
     return f"{sent / 2**20:,.0f} MiB of messages sent"
 
 
@@ -389,8 +389,7 @@ def come_and_go(it, count):
         with contextlib.suppress(OSError):
             peers.append(Connection(it.port))
     time.sleep(1)
-    for peer in peers:
-        peer.close()
+    close(peers)
     time.sleep(1)
     it.ask_stock(PATIENCE)
     return f"{len(peers)} of {count} peers came; behind them a stock client was {it.stock}"

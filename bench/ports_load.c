@@ -9,33 +9,17 @@
 #include <net/if.h>
 #include <poll.h>
 #include <stdint.h>
-#include <stdio.h>
-#include <stdlib.h>
 #include <string.h>
 #include <sys/resource.h>
 #include <sys/socket.h>
-#include <time.h>
+
+#include "load.h"
 
 enum { BATCH = 64, LONGEST = 10300, QUEUE = 8 << 20, PATIENCE = 500 };
 
 static uint8_t rooms[BATCH][LONGEST];
 static struct iovec parts[BATCH];
 static struct mmsghdr messages[BATCH];
-
-static void need(int is_good, const char *what)
-{
-    if (!is_good) {
-        perror(what);
-        exit(1);
-    }
-}
-
-static double now(void)
-{
-    struct timespec it;
-    clock_gettime(CLOCK_MONOTONIC, &it);
-    return (double)it.tv_sec + (double)it.tv_nsec / 1e9;
-}
 
 static int open_interface(const char *name, int protocol)
 {

@@ -7,7 +7,8 @@ their lines. Without --write it says whether the page is as the code is, and end
 import os
 import re
 import sys
-from collections.abc import Iterable
+
+from marks import between
 
 TOP = os.path.dirname(os.path.dirname(os.path.abspath(__file__)))
 PAGE = os.path.join(TOP, "docs", "audit.md")
@@ -53,15 +54,6 @@ def statement() -> list[str]:
     first = next(place for place, it in enumerate(lines) if it.startswith("pub fn run<"))
     last = lines.index("{", first)
     return [f"    {it}".rstrip() for it in lines[first:last]]
-
-
-def between(page: str, name: str, lines: Iterable[str]) -> str:
-    """The page with these lines between the marks of a name."""
-    head, begin, rest = page.partition(f"<!-- {name} -->\n")
-    _, end, tail = rest.partition(f"<!-- end of {name} -->\n")
-    if not begin or not end:
-        raise ValueError(f"docs/audit.md has no marks of {name}")
-    return head + begin + "\n".join(lines) + "\n" + end + tail
 
 
 def rows(page: str, found: dict[str, dict[str, int]]) -> list[str]:

@@ -12,6 +12,7 @@ import sys
 from typing import NamedTuple
 
 import layers
+from marks import between
 
 TOP = layers.TOP
 PAGE = os.path.join(TOP, "docs", "gate.md")
@@ -101,15 +102,6 @@ def with_sums(page: str, table: list[Row]) -> str:
         page = re.sub(rf"^\| {what} \| \w+ \|", f"| {what} | {minutes} |", page, flags=re.M)
     tried = sum(it.edits for it in table)
     return re.sub(r"^\| of these the \d+ edits", f"| of these the {tried} edits", page, flags=re.M)
-
-
-def between(page: str, name: str, lines: list[str]) -> str:
-    """The page with these lines between the marks of a name."""
-    head, begin, rest = page.partition(f"<!-- {name} -->\n")
-    _, end, tail = rest.partition(f"<!-- end of {name} -->\n")
-    if not begin or not end:
-        raise ValueError(f"docs/gate.md has no place for {name}")
-    return head + begin + "\n".join(lines) + "\n" + end + tail
 
 
 def kept(page: str, counts_anew: bool) -> str:

@@ -13,6 +13,7 @@ import threading
 import time
 import unittest
 
+from built import free_port
 from front_stand_in import PATIENCE, Client, Door, make_certificates
 from p4tools import messages as p4, tape
 from p4tools.front_change import change_number
@@ -34,23 +35,6 @@ WRITES = (
 READS = ("read ipv4_lpm", "read *", "read direct_counter_entry ipv4_lpm", "read ipv4_lpm default",
          "read 0x02000099", "get all", "get cookie_only", "capabilities", "raw read ff", "raw write 0880")
 ATOMICITIES = ("continue_on_error", "rollback_on_error", "dataplane_atomic")
-
-
-def free_port(kind, count=1):
-    """A port of 127.0.0.1 that nobody has, nor those behind it, so many in all."""
-    while True:
-        taken = [socket.socket(socket.AF_INET, kind) for _ in range(count)]
-        try:
-            taken[0].bind(("127.0.0.1", 0))
-            port = taken[0].getsockname()[1]
-            for more, it in enumerate(taken[1:], 1):
-                it.bind(("127.0.0.1", port + more))
-            return port
-        except (OSError, OverflowError):
-            continue
-        finally:
-            for it in taken:
-                it.close()
 
 
 class Session:

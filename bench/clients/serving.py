@@ -14,6 +14,10 @@ import frames
 
 HERE = os.path.dirname(os.path.abspath(__file__))
 TOP = os.path.dirname(os.path.dirname(HERE))
+sys.path.insert(1, os.path.join(TOP, "tools"))
+
+from built import free_port  # noqa: E402
+
 # What bin/p4switch sets for the program that serves, unless it is set.
 ONE_HEAP = {"MALLOC_ARENA_MAX": "1", "MALLOC_TRIM_THRESHOLD_": "131072"}
 HEADERS = ["-H", "content-type: application/grpc", "-H", "te: trailers"]
@@ -30,25 +34,6 @@ def switch_words():
 
 
 # Processes.
-
-def free_port(kind, count=1):
-    """A port of 127.0.0.1 that nobody has, nor those behind it, so many in all."""
-    while True:
-        taken = []
-        try:
-            taken.append(socket.socket(socket.AF_INET, kind))
-            taken[0].bind(("127.0.0.1", 0))
-            port = taken[0].getsockname()[1]
-            for more in range(1, count):
-                taken.append(socket.socket(socket.AF_INET, kind))
-                taken[-1].bind(("127.0.0.1", port + more))
-            return port
-        except OSError:
-            continue
-        finally:
-            for it in taken:
-                it.close()
-
 
 def start(words, port, **how):
     """A process that listens at a port, once it does."""
