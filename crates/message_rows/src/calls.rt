@@ -2,7 +2,8 @@
 use crate::shown::tell_entity;
 use p4_types::calls::{Call, Method};
 use p4_types::messages::{
-    SetForwardingPipelineConfigRequest, StreamMessageRequest, Uint128, WriteRequest,
+    ForwardingPipelineConfig, MasterArbitrationUpdate, SetForwardingPipelineConfigRequest,
+    StreamMessageRequest, Uint128, WriteRequest,
 };
 use p4v1_read::read_call;
 use row_lines::{NoAnswer, bytes, say, tell, tell_hex};
@@ -27,13 +28,9 @@ fn tell_write(alloc: Global, told: &mut String, request: &WriteRequest) {
     }
 }
 
-fn tell_set(alloc: Global, told: &mut String, request: &SetForwardingPipelineConfigRequest) {
-    say(told, "set");
-    tell(told, request.device_id);
-    tell(told, request.role_id);
-    tell_id(told, request.election_id);
-    tell(told, request.action);
-    let Some(config) = &request.config else {
+/// Adds a configuration, whose P4Info is told as bytes.
+pub fn tell_config(alloc: Global, told: &mut String, config: &Option<ForwardingPipelineConfig>) {
+    let Some(config) = config else {
         say(told, "no config");
         return;
     };
@@ -45,20 +42,32 @@ fn tell_set(alloc: Global, told: &mut String, request: &SetForwardingPipelineCon
     tell(told, config.cookie.map(|cookie| cookie.cookie));
 }
 
+fn tell_set(alloc: Global, told: &mut String, request: &SetForwardingPipelineConfigRequest) {
+    say(told, "set");
+    tell(told, request.device_id);
+    tell(told, request.role_id);
+    tell_id(told, request.election_id);
+    tell(told, request.action);
+    tell_config(alloc, told, &request.config);
+}
+
+/// Adds an arbitration without its status.
+pub fn tell_arbitration(told: &mut String, update: &MasterArbitrationUpdate) {
+    say(told, "arbitration");
+    tell(told, update.device_id);
+    tell_id(told, update.election_id);
+    match &update.role {
+        None => say(told, "no role"),
+        Some(role) => {
+            tell(told, role.id);
+            tell(told, role.config.is_some());
+        }
+    }
+}
+
 fn tell_stream(alloc: Global, told: &mut String, message: &StreamMessageRequest) {
     match message {
-        StreamMessageRequest::Arbitration(update) => {
-            say(told, "arbitration");
-            tell(told, update.device_id);
-            tell_id(told, update.election_id);
-            match &update.role {
-                None => say(told, "no role"),
-                Some(role) => {
-                    tell(told, role.id);
-                    tell(told, role.config.is_some());
-                }
-            }
-        }
+        StreamMessageRequest::Arbitration(update) => tell_arbitration(told, update),
         StreamMessageRequest::Packet(packet) => {
             say(told, "packet");
             tell_hex(alloc, told, packet.payload.as_slice());
@@ -103,8 +112,8 @@ fn tell_call(alloc: Global, told: &mut String, call: &Call) {
     }
 }
 
-// The method of a number, 1 to 6.
-fn method_of(number: u8) -> Result<Method, NoAnswer> {
+/// The method of a number, 1 to 6.
+pub fn method_of(number: u8) -> Result<Method, NoAnswer> {
     match number {
         1 => Ok(Method::Write),
         2 => Ok(Method::Read),

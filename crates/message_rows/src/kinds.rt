@@ -1,5 +1,5 @@
 //! The kinds of rows.
-use crate::{calls, infos, sent};
+use crate::{answers, calls, infos, sent};
 use row_lines::NoAnswer;
 use std::alloc::Global;
 
@@ -11,6 +11,8 @@ pub fn answer(
     told: &mut String,
 ) -> Result<(), NoAnswer> {
     match kind {
+        "answer" => answers::answer(alloc, asked, told),
+        "failure" => answers::failure(alloc, asked, told),
         "call" => calls::call(alloc, asked, told),
         "info" => infos::info(alloc, asked, told),
         _ => sent::sent(alloc, kind, asked, told),

@@ -1,7 +1,8 @@
-//! Rows of messages: what is read of those of controllers, how those of the switch are spelled, and which rules P4Infos
-//! break.
+//! Rows of messages: what is read of those of controllers and of those of servers, how those of the switch are spelled,
+//! and which rules P4Infos break.
 #![tactic(auto)]
 
+mod answers;
 mod calls;
 mod infos;
 mod kinds;

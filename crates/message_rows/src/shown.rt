@@ -85,7 +85,8 @@ fn tell_replicas(told: &mut String, group: &Option<MulticastGroupEntry>) {
     }
 }
 
-fn tell_entry(alloc: Global, told: &mut String, entry: &TableEntry) {
+/// Adds a table entry.
+pub fn tell_entry(alloc: Global, told: &mut String, entry: &TableEntry) {
     tell_number(told, "entry", entry.table_id);
     tell(told, entry.priority);
     for asked in entry.matches.as_slice() {

@@ -1,0 +1,4 @@
+pub mod Failures
+pub mod Answers
+pub mod Borrowed
+pub mod Laws
