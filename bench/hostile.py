@@ -247,8 +247,8 @@ def silent(it, opening, drip=b""):
     while served.is_alive():
         served.join(5)
         if drip and served.is_alive():
-            with contextlib.suppress(OSError):
-                for peer in peers:
+            for peer in peers:
+                with contextlib.suppress(OSError):
                     peer.send(drip[dripped:dripped + 1] or b"\x00")
             dripped += 1
     told = f"a stock client was {it.stock} after {time.monotonic() - began:.1f} s"
@@ -275,8 +275,15 @@ def dripping_peers(it):
 
 
 @case
+def stalled_calls(it):
+    """32 peers that begin a Write and say nothing more"""
+    block = call_block("Write")
+    return silent(it, frames.PREFACE + frames.settings() + frames.frame(frames.HEADERS, frames.END_HEADERS, 1, block))
+
+
+@case
 def idle_controllers(it):
-    """31 controllers with open channels that say nothing: none is to be ended"""
+    """31 controllers with open channels that say nothing, beside a peer that is quiet: none of them is to be ended"""
     it.ask_nobody()
     peers = [begun(it.port) for _ in range(LINKS - 1 - it.holds)]
     for number, peer in enumerate(peers):
@@ -287,8 +294,10 @@ def idle_controllers(it):
         p4.set_number(request.arbitration.election_id, 1)
         peer.say(stream, request.SerializeToString())
         peer.messages(stream, 1)
+    quiet = begun(it.port)
     it.wait()
     it.ask_stock(PATIENCE)
+    quiet.close()
     ended = 0
     for peer in peers:
         try:
@@ -509,7 +518,7 @@ class Attacked:
 
     def run(self):
         self.controller.take_charge(self.program)
-        if CASES[self.name] in (silent_peers, silent_behind_preface, dripping_peers):
+        if CASES[self.name] in (silent_peers, silent_behind_preface, dripping_peers, stalled_calls):
             self.controller.close()
             time.sleep(0.5)
         before = resident(self.switch.pid)

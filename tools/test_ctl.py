@@ -86,9 +86,8 @@ class Sent(Case):
 
     def test_multicast(self):
         """It is an update of a multicast group, by its own word."""
-        self.router("multicast 7 replicas=1:0,3:1", "c0 multicast modify 7 replicas=2:0", "multicast delete 7")
-        made = made_of("insert multicast_group_entry 7 replicas=1:0,3:1", "modify multicast_group_entry 7 replicas=2:0",
-                       "delete multicast_group_entry 7")
+        self.router("multicast 7 replicas 1, 2, 3:5", "c0 multicast modify 7 replicas 2", "multicast delete 7")
+        made = made_of("insert multicast 7 replicas 1, 2, 3:5", "modify multicast 7 replicas 2", "delete multicast 7")
         sent = [p4.parse(p4.WriteRequest, it.message()).updates[0] for it in self.switch.calls("write")]
         self.assertEqual(sent, [p4.parse(p4.WriteRequest, it.message()).updates[0] for it in made])
 
@@ -417,12 +416,14 @@ class Looks(Case):
 
     def test_groups(self):
         self.told(LAB)
-        self.assertEqual(self.told("groups"), ["# no members, no groups and no digest entries"])
+        self.assertEqual(self.told("groups"), ["# no members, no groups, no digest entries and no multicast groups"])
         words = ["action_profile_member ecmp_paths member_id=1 set_port(port=4)",
-                 "action_profile_group ecmp_paths group_id=1 members=1*3", "digest_entry seen max_list_size=7"]
+                 "action_profile_group ecmp_paths group_id=1 members=1*3", "digest_entry seen max_list_size=7",
+                 "multicast 7 replicas 1, 4, 1:5", "multicast 8"]
         self.switch.others = [read_entity(cut(it), names_of("lab")) for it in words]
         self.assertEqual(self.told("groups"), words)
-        self.assertEqual(self.told("ports")[2:], ["port 4: named by 1 of ecmp_paths"])
+        self.assertEqual(self.told("ports")[2:], ["port 1: named by 2 of multicast group 7",
+                                                  "port 4: named by 1 of ecmp_paths, 1 of multicast group 7"])
 
     def test_watch(self):
         import json

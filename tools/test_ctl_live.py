@@ -18,6 +18,7 @@ from p4tools import ctl_main
 from p4tools import messages as p4
 
 BRIDGE = f"config verify_and_commit {PROGRAMS}/bridge.p4info.txt {PROGRAMS}/bridge.json"
+FLOOD = f"config verify_and_commit {PROGRAMS}/flood.p4info.txt {PROGRAMS}/flood.json"
 # An Ethernet frame with an IPv4 packet to 10.1.2.3, whose checksum the router does not ask for.
 PACKET = "020000000001" "020000000002" "0800" "4500001c00000000401100000a0000010a010203" "0001000200080000"
 
@@ -91,6 +92,21 @@ class Lines(Case):
         head, row = [it.split() for it in self.told("watch --once")]
         self.assertEqual((head[0], row), ("entry", f"ipv4_lpm ipv4.dst=10.1.0.0/16 0 0 2 {len(PACKET)}".split()))
 
+    def test_multicast(self):
+        """A group as its own line says it, what is shown of it, and a packet to it."""
+        frame = "ffffffffffff" "020000000002" "0800"
+        self.assertEqual(self.told(FLOOD, "multicast 7 replicas 1, 2, 3:5", "insert bridge dst=ff:ff:ff:ff:ff:ff flood(group=7)")[1:], [
+            "insert multicast 7 replicas 1, 2, 3:5: OK", "insert bridge eth.dst=ff:ff:ff:ff:ff:ff flood(group=7): OK"])
+        self.assertEqual(self.told("groups"), ["multicast 7 replicas 1, 2, 3:5"])
+        self.assertEqual(self.told("ports ")[2:], [f"port {port}: named by 1 of multicast group 7" for port in (1, 2, 3)])
+        with socket.socket(socket.AF_INET, socket.SOCK_DGRAM) as left:
+            left.bind(("127.0.0.1", self.switch.packets + 1))
+            left.settimeout(20)
+            self.told("packet port=9 " + frame)
+            self.assertEqual([left.recv(65536).hex() for _ in range(3)], [f"{port:04x}{frame}" for port in (1, 2, 3)])
+        self.told("multicast modify 7", "multicast delete 7")
+        self.assertEqual(self.told("groups"), ["# no members, no groups, no digest entries and no multicast groups"])
+
     def test_listen(self):
         self.told(ROUTER, "insert ipv4_lpm dst=10.1.0.0/16 route(port=255, mac=02:00:00:00:00:03)")
         sender = threading.Timer(2, lambda: self.send(1, bytes.fromhex(PACKET)))
@@ -122,7 +138,7 @@ class Refusals(Case):
         entry = "insert ipv4_lpm dst=10.9.0.0/16 "
         for line, rule, to_do in (
                 (entry + "drop() idle_timeout_ns=5", "UNIMPLEMENTED, rule U2", "leave it out"),
-                ("multicast 7 replicas=1:0,3:1", "UNIMPLEMENTED, rule U2", "multicast groups"),
+                ("multicast 7 replicas 1, 1", "INVALID_ARGUMENT, rule U9", "same port and instance"),
                 ("delete 0x02000009", "NOT_FOUND, rule U3", "`program ids`"),
                 ("insert ipv4_lpm default drop()", "INVALID_ARGUMENT, rule U5", "modify alone"),
                 ("insert ipv4_lpm dst=10.0.0.0/0 drop()", "INVALID_ARGUMENT, rule U6", "leave the field out"),

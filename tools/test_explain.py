@@ -4,7 +4,7 @@ import os
 import re
 import unittest
 
-from p4tools import constructs, explain, rules
+from p4tools import agree, constructs, explain, rules
 from p4tools.messages import P4Info, parse
 from test_commands import run
 from test_scenarios import EXAMPLES, bytes_of
@@ -95,6 +95,19 @@ class Places(unittest.TestCase):
                 self.assertEqual(told[0], f"refused by rule {rule}: {rules.CONFIG[rule]}")
                 what, instead = constructs.CONSTRUCTS[construct]
                 self.assertIn(f"      {what}\n      instead: {instead}", "\n".join(told))
+
+    def test_ids_of_each_kind(self):
+        """An id of each kind has the highest byte that P4Runtime gives the kind, and is told with any other one."""
+        kinds = {"tables": 2, "actions": 1, "action_profiles": 0x11, "counters": 0x12, "direct_counters": 0x13, "digests": 0x17,
+                 "controller_packet_metadata": 4}
+        for field, byte in kinds.items():
+            for highest in (byte, byte + 1, 0x18):
+                with self.subTest(field, highest=highest):
+                    info = P4Info()
+                    own = getattr(info, field).add().preamble
+                    own.id, own.name = highest << 24 | 1, "it"
+                    told = [rule for rule, *_ in agree.of_info(info) if rule == "I3"]
+                    self.assertEqual(told, [] if highest == byte else ["I3"])
 
     def test_words_stand_in_the_document(self):
         with open(os.path.join(TOP, "docs/programs.md"), encoding="utf-8") as it:

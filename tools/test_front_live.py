@@ -31,7 +31,7 @@ WRITES = (
     "delete ipv4_lpm dst=10.{0}.0.0/16", "modify ipv4_lpm default drop()",
     "insert ipv4_lpm dst=10.{0}.0.0/16 route(port=255, mac=02:00:00:00:00:05)",
     "insert ipv4_lpm dst=10.{0}.0.1/16 drop()", "insert ipv4_lpm dst=10.{0}.0.0/16 route(port=700, mac=0)",
-    "insert ipv4_lpm dst=10.{0}.0.0/16 drop() priority=4", "insert multicast_group_entry {0} replicas=1:0")
+    "insert ipv4_lpm dst=10.{0}.0.0/16 drop() priority=4", "insert multicast {0} replicas 1")
 READS = ("read ipv4_lpm", "read *", "read direct_counter_entry ipv4_lpm", "read ipv4_lpm default",
          "read 0x02000099", "get all", "get cookie_only", "capabilities", "raw read ff", "raw write 0880")
 ATOMICITIES = ("continue_on_error", "rollback_on_error", "dataplane_atomic")

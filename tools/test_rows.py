@@ -37,10 +37,12 @@ class Rows(unittest.TestCase):
         self.assertIn("\n" + computed("packet_rows.py", "stdout"), stored("switch_rows", "stdout"))
 
     def test_places(self):
-        """The rows of one call that fails, of connections that are cut, and of tapes at the limits stand there, too."""
-        for name in ("stdin", "stdout"):
-            with self.subTest(name):
-                self.assertIn("\n" + computed("fault_rows.py", name), stored("switch_rows", name))
+        """The rows of packets that are copied, of one call that fails, of connections that are cut, and of tapes at the limits stand
+        there, too."""
+        for script in ("copy_rows.py", "fault_rows.py"):
+            for name in ("stdin", "stdout"):
+                with self.subTest(script, file=name):
+                    self.assertIn("\n" + computed(script, name), stored("switch_rows", name))
 
     def test_grammar(self):
         """The grammar that random_bytes.py reads gives the stored answers to tapes, good and bad."""

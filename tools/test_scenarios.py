@@ -8,7 +8,7 @@ from p4tools.scenario import Maker, make
 from p4tools.trouble import Trouble
 
 EXAMPLES = os.path.join(os.path.dirname(os.path.abspath(__file__)), "../examples")
-MADE = ["one-entry-one-packet", "batch-or-nothing", "backup-waits", "grpc-client", "operator/routes",
+MADE = ["one-entry-one-packet", "batch-or-nothing", "backup-waits", "flood", "grpc-client", "operator/routes",
         "laboratory/version-1", "laboratory/version-2", "paths/paths"]
 
 
@@ -60,6 +60,11 @@ WRONG = {
     "packet_out port=1 00": "no controller header is named packet_out",
     "end": "no line begins with end",
     "insert ipv4_lpm f(": "a parenthesis is not closed",
+    "insert multicast": "a name is missing; write multicast GROUP replicas 1, 2, 3:5",
+    "insert multicast all replicas 1": "a multicast group takes a number, and all is none",
+    "insert multicast 7 replicas 1 2": "the port of a replica takes a number, and 1 2 is none",
+    "insert multicast 7 replicas 1, 2:": "the instance of a replica takes a number, and nothing is none",
+    "insert multicast 7 replicas=1": "replicas=1 is not expected here; write multicast GROUP replicas 1, 2, 3:5",
 }
 NOTED = {
     "insert ipv4_lpm dst=10.0.0.1/8 drop()": "ipv4.dst has bits behind its prefix",
@@ -74,6 +79,12 @@ NOTED = {
     "insert acl a=1 drop()": "each entry of acl needs priority=N above 0",
     "insert acl a=0x100 drop() priority=1": "lab.a has 8 bits, and the value has more",
     "insert ecmp member_id=1": "lab.b is exact, so each entry of ecmp needs lab.b=VALUE",
+    "insert multicast 0 replicas 1": "a multicast group has an id from 1 to 65535",
+    "delete multicast 65536": "a multicast group has an id from 1 to 65535",
+    "modify multicast 7 replicas 510, 511": "a replica has a port up to 510 and an instance up to 65535",
+    "insert multicast 7 replicas 1:65536": "a replica has a port up to 510 and an instance up to 65535",
+    "insert multicast 7 replicas 1, 2, 1:0": "no two replicas have the same port and instance",
+    "insert multicast 7 replicas " + ", ".join(map(str, range(33))): "a multicast group has at most 32 replicas",
 }
 
 

@@ -50,6 +50,18 @@ class Tapes(unittest.TestCase):
         self.assertEqual(shown(data)[1:], (None, data))
         self.assertEqual(shown(data, BRIDGE)[1:], (None, data))
 
+    def test_multicast(self):
+        """A multicast group is shown in the words that make it; an entry of the replication engine without a group has none."""
+        lines = ["c0 insert multicast 7 replicas 1, 2, 3:5", "c0 modify multicast 65535", "c0 delete multicast 7",
+                 "c0 read multicast *", "c0 read multicast 7"]
+        made = [it for line in lines for it in Maker(None).take(line)]
+        self.assertEqual(made[0].payload.hex(), "01" "0801" "1a021001" "2218" "0801" "1214" "4a12" "0a10" "0807" "12020801"
+                         "12020802" "120408031005")
+        self.assertEqual(shown(tape.write_tape(made)), (lines, None, tape.write_tape(made)))
+        bare = tape.write_tape([tape.Record(tape.CALL, 0, bytes.fromhex("01" "2206" "0801" "1202" "4a00"))])
+        lines, wrong, again = shown(bare)
+        self.assertEqual((lines[1:], wrong, again), (["c0 raw write 2206080112024a00"], None, bare))
+
     def test_no_tapes(self):
         data = bytes_of("one-entry-one-packet.tape")
         for bad, said in ((data[:-1], "breaks off"), (data + b"\0", "behind the end record"), (b"", "no tape"),

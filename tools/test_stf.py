@@ -85,8 +85,8 @@ class Tests(unittest.TestCase):
                                        "mc_node_associate 5 1", "mc_node_associate 6 0"], 1):
             it.take(number, line)
         self.assertEqual(it.lines, [
-            "insert multicast_group_entry 5 replicas=1:0,2:0", "expect OK",
-            "modify multicast_group_entry 5 replicas=1:0,2:0,4:3", "expect OK", "# line 6 is left out: mc_node_associate 6 0"])
+            "insert multicast 5 replicas 1, 2", "expect OK",
+            "modify multicast 5 replicas 1, 2, 4:3", "expect OK", "# line 6 is left out: mc_node_associate 6 0"])
 
     def test_examples_are_there(self):
         self.assertTrue(os.path.isfile(os.path.join(EXAMPLES, "programs", "lab.json")))

@@ -10,7 +10,7 @@ from test_scenarios import EXAMPLES
 from test_stored import BUILDS, BUILT
 
 HERE = os.path.dirname(os.path.abspath(__file__))
-SCENARIOS = ["one-entry-one-packet", "batch-or-nothing", "backup-waits", "operator/routes", "laboratory/version-1",
+SCENARIOS = ["one-entry-one-packet", "batch-or-nothing", "backup-waits", "flood", "operator/routes", "laboratory/version-1",
              "laboratory/version-2", "paths/paths", "regression/version-1"]
 STF = {"router": "router", "lab": "lab"}
 

@@ -3,7 +3,7 @@ from p4tools.entities import KIND_WORDS, LPM
 from p4tools.names import KINDS
 
 PREFIXES = {"table": 2, "action": 1, "action profile": 0x11, "counter": 0x12, "direct counter": 0x13, "digest": 0x17,
-            "controller header": 0x18}
+            "controller header": 4}
 
 
 def of_info(info):

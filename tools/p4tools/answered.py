@@ -119,6 +119,8 @@ def _key_alone(entity):
         key.action_profile_group.ClearField("members")
     elif key.HasField("digest_entry"):
         key.digest_entry.ClearField("config")
+    elif key.HasField("packet_replication_engine_entry"):
+        key.packet_replication_engine_entry.multicast_group_entry.ClearField("replicas")
     return key
 
 

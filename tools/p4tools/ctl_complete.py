@@ -71,6 +71,8 @@ def _entity(verb, rest, last, names, stored):
         return _names("digest", names) if len(rest) == 1 else ["max_list_size=", "max_timeout_ns=", "ack_timeout_ns="]
     if rest[0] == "counter_entry":
         return _names("counter", names) if len(rest) == 1 else ["index="]
+    if rest[0] == "multicast":
+        return ["replicas "] if len(rest) == 2 and verb in ("insert", "modify") else []
     at = 1 if rest[0] == "direct_counter_entry" else 0
     if len(rest) == at:
         return _names("table", names)

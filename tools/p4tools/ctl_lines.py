@@ -15,11 +15,11 @@ HELP = {
     "program": ("program [ids]", "tables, keys, actions, profiles, counters and digests of the switch's program; with "
                 "ids their numbers", "program"),
     "entries": ("entries [TABLE]", "entries and default actions, with what each has counted", "entries ipv4_lpm"),
-    "groups": ("groups", "members and groups of the action profiles, and digest entries", "groups"),
+    "groups": ("groups", "members and groups of the action profiles, digest entries and multicast groups", "groups"),
     "counters": ("counters [TABLE | COUNTER]", "what entries and cells have counted", "counters ipv4_lpm"),
     "watch": (watch.FORM, "packets and bytes a second of each entry and cell, once a second; --once looks once, over a "
               "second, and --json writes an object a line", "watch --once"),
-    "ports": ("ports", "where packets go in and out, and which entries send to which port", "ports"),
+    "ports": ("ports", "where packets go in and out, and what sends to which port", "ports"),
     "listen": ("listen [count=N] [seconds=N]", "packets for the controller, digests (which are acknowledged), idle "
                "timeouts and changes of mastership, as they come", "listen seconds=10"),
     "play": ("play FILE", "the calls and packets of a scenario, in their order; what is refused is told",
@@ -34,8 +34,8 @@ HELP = {
                "delete ipv4_lpm dst=10.1.0.0/16"),
     "batch": ("batch [ATOMICITY]", "updates up to `end`, in one Write: continue_on_error, rollback_on_error or "
               "dataplane_atomic", "batch dataplane_atomic"),
-    "multicast": ("multicast [insert | modify | delete] GROUP [replicas=PORT:INSTANCE,..]", "a multicast group, as insert "
-                  "multicast_group_entry", "multicast 7 replicas=1:0,3:1"),
+    "multicast": ("multicast [insert | modify | delete] GROUP [replicas PORT[:INSTANCE], ..]", "a multicast group, as insert "
+                  "multicast", "multicast 7 replicas 1, 2, 3:5"),
     "read": ("read ENTITY, or read, entities, end", "what the switch has, asked for by the words of an entity",
              "read ipv4_lpm"),
     "packet_out": ("packet_out [FIELD=VALUE ..] HEX", "a packet of the controller, which enters at the CPU port",
@@ -63,6 +63,7 @@ ENTITIES = {
     "a member": "action_profile_member PROFILE member_id=N ACTION(..)",
     "a group": "action_profile_group PROFILE group_id=N members=1*1,2*3 (member and weight)",
     "a digest": "digest_entry DIGEST max_list_size=N max_timeout_ns=N ack_timeout_ns=N",
+    "a multicast group": "multicast GROUP replicas 1, 2, 3:5 (port, and instance where it is not 0)",
     "counters, in a read": "counter_entry COUNTER [index=N], direct_counter_entry TABLE [FIELD=VALUE ..]",
     "a match": "dst=10.1.0.0/16 (lpm), a=0xa0&&&0xf0 (ternary), port=1..3 (range), dst=7 (exact, optional)",
     "a value": "7, 0x07, 10.1.0.0, 02:00:00:00:00:03, an IPv6 address, or bytes:0007 for the very bytes",
@@ -127,7 +128,7 @@ def multicast(words):
     verb, *rest = words if words[:1] and words[0] in UPDATES else ["insert", *words]
     if not rest:
         raise Trouble(f"a group is missing; write {HELP['multicast'][0]}")
-    return " ".join([verb, "multicast_group_entry", *rest])
+    return " ".join([verb, "multicast", *rest])
 
 
 def tell_help(words):

@@ -334,26 +334,34 @@ def spell_digest(entry, names):
 
 
 def read_multicast(words, names, entry):
-    """`GROUP [replicas=PORT:INSTANCE,..]`"""
-    form = "multicast_group_entry GROUP replicas=1:0,3:1"
+    """`GROUP [replicas PORT[:INSTANCE], ..]`; the group `*` is all of them."""
+    form = "multicast GROUP replicas 1, 2, 3:5"
     word, words = _one_name(words, form)
     group = entry.multicast_group_entry
     group.SetInParent()
-    group.multicast_group_id = whole_number("a multicast group", word)
-    given = words[:1] if words and words[0].startswith("replicas=") else []
-    nothing_more(words[len(given):], form)
-    for item in cut_list(given[0][9:]) if given else []:
-        port, _, instance = item.partition(":")
+    group.multicast_group_id = 0 if word == "*" else whole_number("a multicast group", word)
+    if words[:1] != ["replicas"]:
+        nothing_more(words, form)
+        return
+    for item in cut_list(" ".join(words[1:])):
+        port, colon, instance = item.strip().partition(":")
         replica = group.replicas.add()
-        replica.egress_port = whole_number("a port", port)
-        replica.instance = whole_number("an instance", instance or "0")
+        replica.egress_port = whole_number("the port of a replica", port)
+        replica.instance = whole_number("the instance of a replica", instance) if colon else 0
+
+
+def spell_replica(port, instance):
+    """The word of a replica."""
+    return f"{port}:{instance}" if instance else str(port)
 
 
 def spell_multicast(entry, names):
     """The words of a MulticastGroupEntry."""
+    if not entry.HasField("multicast_group_entry"):
+        raise Trouble("an entry of the replication engine without a group has no words")
     group = entry.multicast_group_entry
-    replicas = ",".join(f"{it.egress_port}:{it.instance}" for it in group.replicas)
-    return f"multicast_group_entry {group.multicast_group_id}" + f" replicas={replicas}" * bool(replicas)
+    replicas = ", ".join(spell_replica(it.egress_port, it.instance) for it in group.replicas)
+    return f"multicast {group.multicast_group_id or '*'}" + f" replicas {replicas}" * bool(replicas)
 
 
 READERS = {
@@ -364,8 +372,7 @@ READERS = {
     "direct_counter_entry":
         lambda words, names, it: read_direct_counter(words, names, it.direct_counter_entry),
     "digest_entry": lambda words, names, it: read_digest(words, names, it.digest_entry),
-    "multicast_group_entry":
-        lambda words, names, it: read_multicast(words, names, it.packet_replication_engine_entry),
+    "multicast": lambda words, names, it: read_multicast(words, names, it.packet_replication_engine_entry),
 }
 SPELLERS = {
     "table_entry": spell_entry, "action_profile_member": spell_member,

@@ -4,8 +4,11 @@ from p4tools.messages import Update
 
 
 def of_update(update, names):
-    """The hints to an update of a table entry, a sentence each."""
-    if update.entity.WhichOneof("entity") != "table_entry":
+    """The hints to an update of a table entry or a multicast group, a sentence each."""
+    kind = update.entity.WhichOneof("entity")
+    if kind == "packet_replication_engine_entry":
+        return list(_of_multicast(update, update.entity.packet_replication_engine_entry.multicast_group_entry))
+    if kind != "table_entry":
         return []
     entry = update.entity.table_entry
     table = names.with_id("table", entry.table_id)
@@ -13,6 +16,20 @@ def of_update(update, names):
         return []
     found = [] if entry.is_default_action else list(_of_key(entry, table))
     return found + list(_of_action(update.type, entry, table, names))
+
+
+def _of_multicast(update, group):
+    if not 1 <= group.multicast_group_id <= 65535:
+        yield "a multicast group has an id from 1 to 65535"
+    if update.type == Update.DELETE:
+        return
+    given = [(it.egress_port, it.instance) for it in group.replicas]
+    if len(given) > 32:
+        yield "a multicast group has at most 32 replicas"
+    if any(port > 510 or instance > 65535 for port, instance in given):
+        yield "a replica has a port up to 510 and an instance up to 65535"
+    if len(set(given)) < len(given):
+        yield "of a multicast group no two replicas have the same port and instance"
 
 
 def _of_key(entry, table):

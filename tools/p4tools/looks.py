@@ -135,18 +135,19 @@ def key_bytes(entry):
 
 
 def groups(session, words):
-    """`groups`: members and groups of all action profiles, and digest entries."""
+    """`groups`: members and groups of all action profiles, digest entries and multicast groups."""
     nothing_more(words, "groups")
     need_program(session)
-    asked = [Entity(), Entity(), Entity()]
+    asked = [Entity(), Entity(), Entity(), Entity()]
     asked[0].action_profile_member.SetInParent()
     asked[1].action_profile_group.SetInParent()
     asked[2].digest_entry.SetInParent()
+    asked[3].packet_replication_engine_entry.multicast_group_entry.SetInParent()
     found = session.read(*asked)
     for entity in found:
         yield spell_entity(entity, session.maker.names)
     if not found:
-        yield "# no members, no groups and no digest entries"
+        yield "# no members, no groups, no digest entries and no multicast groups"
 
 
 # Counts.
@@ -215,26 +216,34 @@ def counters(session, words):
 # Ports.
 
 def ports(session, words):
-    """`ports`: where packets go in and out, and which entries and members send to which port."""
+    """`ports`: where packets go in and out, and which entries, members and multicast groups send to which port."""
     nothing_more(words, "ports")
     host, where = place_of(session.options.at)[0], session.options.packet_port
     yield f"packets enter at UDP port {where} of {host} and leave to UDP port {where + 1}: two bytes of the port, then the packet"
     yield "ports are 0 to 510; the switch has all of them, and tells of none"
     need_program(session)
     names, found = session.maker.names, {}
-    asked = [Entity(), Entity(), Entity()]
+    asked = [Entity(), Entity(), Entity(), Entity()]
     asked[0].table_entry.SetInParent()
     asked[1].table_entry.is_default_action = True
     asked[2].action_profile_member.SetInParent()
+    asked[3].packet_replication_engine_entry.multicast_group_entry.SetInParent()
     for entity in session.read(*asked):
-        for action, title in _actions(entity, names):
-            for port in _ports_of(action, names):
-                found.setdefault(port, {}).setdefault(title, 0)
-                found[port][title] += 1
+        for port, title in _named_by(entity, names):
+            found.setdefault(port, {}).setdefault(title, 0)
+            found[port][title] += 1
     for port, titles in sorted(found.items()):
         yield f"port {port}: named by {', '.join(f'{number:,} of {it}' for it, number in sorted(titles.items()))}"
     if not found:
-        yield "# no entry and no member names a port"
+        yield "# no entry, no member and no multicast group names a port"
+
+
+def _named_by(entity, names):
+    """The ports that an entity names, each with the name of what has it."""
+    if entity.HasField("packet_replication_engine_entry"):
+        group = entity.packet_replication_engine_entry.multicast_group_entry
+        return [(it.egress_port, f"multicast group {group.multicast_group_id}") for it in group.replicas]
+    return [(port, title) for action, title in _actions(entity, names) for port in _ports_of(action, names)]
 
 
 def _actions(entity, names):

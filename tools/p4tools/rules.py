@@ -85,7 +85,7 @@ def of_update(code, number):
 # What to do about a refusal, a sentence each.
 TO_DO_UPDATE = {
     1: "begin the line with insert, modify or delete, and name an entity",
-    2: "leave it out: meters, counters, idle timeouts and multicast groups are not written here, nor are members watched",
+    2: "leave it out: meters, counters, idle timeouts and clone sessions are not written here, nor are members watched",
     3: "`program ids` lists what the program has",
     4: "name it among the ids of the role (`arbitrate election=N role=N ids=NAME,..`), or write as a role without a list",
     5: "the program fixes it, so only another program changes it; a default action is changed by modify alone",

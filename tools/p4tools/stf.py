@@ -3,7 +3,7 @@ line of a scenario is named, and left out."""
 import re
 
 from p4tools.captures import give, path_from
-from p4tools.entities import EXACT, LPM, OPTIONAL, RANGE, TERNARY
+from p4tools.entities import EXACT, LPM, OPTIONAL, RANGE, TERNARY, spell_replica
 from p4tools.files import names_of, tell, text_of
 from p4tools.names import part
 from p4tools.trouble import Trouble
@@ -201,8 +201,8 @@ class Made:
             raise Trouble("such a group or node was not created")
         verb = "modify" if self.groups[group] else "insert"
         instance, ports = self.nodes[node]
-        self.groups[group] = (self.groups[group] or []) + [f"{port}:{instance}" for port in ports]
-        return [f"{verb} multicast_group_entry {group} replicas={','.join(self.groups[group])}", "expect OK"]
+        self.groups[group] = (self.groups[group] or []) + [spell_replica(port, instance) for port in ports]
+        return [f"{verb} multicast {group} replicas {', '.join(self.groups[group])}", "expect OK"]
 
 
 VERBS = {"packet": Made.packet, "expect": Made.expect, "wait": Made.nothing, "no_packet": Made.nothing, "remove": Made.remove,

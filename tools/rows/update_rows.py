@@ -16,6 +16,7 @@ FAILED_PRECONDITION, OUT_OF_RANGE, UNIMPLEMENTED = 9, 11, 12
 INSERT, MODIFY, DELETE = 1, 2, 3
 EXACT, LPM, TERNARY, RANGE, OPTIONAL = 2, 3, 4, 5, 6
 SLOTS = 1 << 20
+MULTICAST_GROUPS = 1024
 
 
 class Broken(Exception):
@@ -153,7 +154,7 @@ def resolution(info, scope, update):
     kind, entity = update.number(1), update.message(2)
     need(kind in (INSERT, MODIFY, DELETE) and entity.fields, 1)
     member, = entity.fields
-    resolve = {2: entry_resolution, 3: member_resolution, 4: group_resolution, 12: digest_resolution}.get(member)
+    resolve = {2: entry_resolution, 3: member_resolution, 4: group_resolution, 9: replication_resolution, 12: digest_resolution}.get(member)
     need(resolve, 2, UNIMPLEMENTED)
     return resolve(info, lambda id: scope is None or id in scope, kind, entity.message(member))
 
@@ -189,6 +190,18 @@ def digest_resolution(info, may_write, kind, digest):
     if kind != DELETE:
         need(config.signed(1) >= 0 and config.signed(3) >= 0 and 0 <= config.signed(2) <= 256, 9)
     return "digest", kind, "digest", id, None
+
+
+def replication_resolution(info, may_write, kind, entry):
+    need(1 in entry, 2, UNIMPLEMENTED)
+    group = entry.message(1)
+    id, replicas = group.number(1), [(replica.number(1), replica.number(2)) for replica in group.messages(2)]
+    # (no list of ids has one of a multicast group)
+    need(may_write(None), 4, PERMISSION_DENIED)
+    need(1 <= id <= 65535, 6)
+    if kind != DELETE:
+        need(len(replicas) <= 32 and len(set(replicas)) == len(replicas) and all(port <= 510 and instance <= 65535 for port, instance in replicas), 9)
+    return "multicast", kind, "multicast", id, replicas
 
 
 def entry_resolution(info, may_write, kind, entry):
@@ -292,14 +305,14 @@ def rows_of(does):
 
 
 class Written:
-    """What is written to a program with so many rows: entries by rising number, members, groups, digests, default actions."""
+    """What is written to a program with so many rows: entries by rising number, members, groups, digests, default actions, multicast groups."""
 
     def __init__(self, info, rows):
         self.info, self.rows, self.slots, self.next = info, rows, SLOTS - info.cells, 1
-        self.entries, self.members, self.groups, self.digests, self.defaults = [], set(), {}, set(), {}
+        self.entries, self.members, self.groups, self.digests, self.defaults, self.multicast = [], set(), {}, set(), {}, {}
 
     def left(self):
-        groups = sum(1 + len(members) for members in self.groups.values())
+        groups = sum(1 + len(named) for written in (self.groups, self.multicast) for named in written.values())
         return self.rows - sum(entry.rows() for entry in self.entries) - len(self.members) - groups
 
     def find(self, name):
@@ -325,7 +338,7 @@ class Written:
     def make(self, change):
         told, kind, word, name, does = change
         there = {"entry": lambda: self.find(name) is not None, "member": lambda: name in self.members, "group": lambda: name in self.groups,
-                 "digest": lambda: name in self.digests, "default": lambda: True}[word]()
+                 "digest": lambda: name in self.digests, "multicast": lambda: name in self.multicast, "default": lambda: True}[word]()
         need(kind != INSERT or not there, 10, ALREADY_EXISTS)
         need(kind == INSERT or there, 10, NOT_FOUND)
         getattr(self, "make_" + word)(kind, name, does)
@@ -336,6 +349,15 @@ class Written:
 
     def make_digest(self, kind, id, does):
         (self.digests.discard if kind == DELETE else self.digests.add)(id)
+
+    def make_multicast(self, kind, id, replicas):
+        if kind == DELETE:
+            del self.multicast[id]
+            return
+        former = 1 + len(self.multicast[id]) if kind == MODIFY else 0
+        need(kind == MODIFY or len(self.multicast) < MULTICAST_GROUPS, 12, RESOURCE_EXHAUSTED)
+        need(1 + len(replicas) - former <= self.left(), 12, RESOURCE_EXHAUSTED)
+        self.multicast[id] = replicas
 
     def make_member(self, kind, id, does):
         profile = id[0]

@@ -205,6 +205,16 @@ impl Store {
         self.valid[to.header] = self.valid[from.header];
     }
 
+    /// Makes it the same as another store, which has as many fields and headers. It takes no memory.
+    pub fn copy_from(&mut self, other: &Store)
+        requires fields { length other.now.fields ≡ length self.old.fields }
+        requires headers { length other.now.valid ≡ length self.old.valid }
+        ensures { self.new ≡ other.now }
+    {
+        self.fields.copy_from_slice(other.fields.as_slice());
+        self.valid.copy_from_slice(other.valid.as_slice());
+    }
+
     /// Makes each header invalid and each field 0, as in a store that was just opened. It takes no memory.
     pub fn clear(&mut self)
         ensures { self.new ≡ cleared (length self.old.fields) (length self.old.valid) }

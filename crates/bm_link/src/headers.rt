@@ -116,6 +116,7 @@ pub(crate) fn standard_metadata_of(fields: &Fields) -> StandardMetadata
         packet_length: standard_field(fields, "packet_length"),
         egress_spec: fields::field_by(fields, "standard_metadata", "egress_spec"),
         egress_port: standard_field(fields, "egress_port"),
+        egress_rid: standard_field(fields, "egress_rid"),
         mcast_grp: standard_field(fields, "mcast_grp"),
         parser_error: standard_field(fields, "parser_error"),
         checksum_error: standard_field(fields, "checksum_error"),

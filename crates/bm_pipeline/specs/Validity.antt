@@ -84,6 +84,7 @@ pub record IsStandard (program : Program) (standard : StandardMetadata) : Type 0
   pub egress_spec : IsField program standard.egress_spec
   pub nine_bits : standard.egress_spec.width ≡ 9
   pub egress_port : IfSome standard.egress_port (IsField program)
+  pub egress_rid : IfSome standard.egress_rid (IsField program)
   pub mcast_grp : IfSome standard.mcast_grp (IsField program)
   pub parser_error : IfSome standard.parser_error (IsField program)
   pub checksum_error : IfSome standard.checksum_error (IsField program)

@@ -30,6 +30,7 @@ pub struct StandardMetadata {
     /// 9 bits wide.
     pub egress_spec: FieldPlace,
     pub egress_port: Option<FieldPlace>,
+    pub egress_rid: Option<FieldPlace>,
     pub mcast_grp: Option<FieldPlace>,
     pub parser_error: Option<FieldPlace>,
     pub checksum_error: Option<FieldPlace>,

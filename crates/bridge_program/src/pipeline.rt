@@ -95,6 +95,7 @@ fn standard_metadata() -> StandardMetadata
         packet_length: Some(metadata_field(3, 32)),
         egress_spec: metadata_field(1, 9),
         egress_port: Some(metadata_field(2, 9)),
+        egress_rid: None,
         mcast_grp: None,
         parser_error: Some(metadata_field(4, 32)),
         checksum_error: Some(metadata_field(5, 1)),

@@ -1,5 +1,6 @@
 -- Courses, one behind another.
-use Rattle.std.proofs.Common.{◌≡◌, ℕ, ◌+◌, List, [], ◌∷◌, ◌++◌, Option, refl, sym, ap, subst, ◌∙◌, arith, append-nil}
+use Rattle.std.proofs.Common.{◌≡◌, ℕ, ◌+◌, List, [], ◌∷◌, ◌++◌, Option, Bool, true, false, None, fold, refl, sym, ap, subst, ◌∙◌, arith, append_assoc, append-nil}
+use Rattle.std.specs.Prelude.{◌||◌}
 use Rattle.std.specs.List.{flat_map, sum_by}
 use Rattle.std.proofs.Math.Path.{fun_ext}
 use Rattle.std.proofs.lemmas.Grind.{flat_map-append}
@@ -12,14 +13,18 @@ use Rattle.mail_room.specs.declared.next.Next.{Next}
 use Rattle.p4rt_service.specs.declared.link.Link.{Link}
 use Rattle.p4rt_service.specs.Dialogues.{Dialogue, Ends, Asks, ◌>>=◌, each, Exchange, Runs}
 use Rattle.p4rt_service.specs.Laws.{behind}
+use Rattle.h2_conn.specs.Bytes.{code_of}
+use Rattle.p4rt_service.specs.Serving.{is_open}
 use Rattle.p4rt_service.specs.Turns.{Served, Turn, untold, turn_served, turns_served}
 use Rattle.p4rt_service.proofs.Holding.{associative, each_behind}
 use Rattle.p4rt_service.proofs.Cuts.{sent_before}
 use Rattle.link_loop.specs.declared.ends.LinkEnd.{LinkEnd}
 use Rattle.link_loop.specs.declared.ends.LinkEnd.TheVariants as ends
 use Rattle.link_loop.specs.Doings.{Doing, turn_of, turns_of, exchanges_in, exchanges_of, bytes_in, packet_in, moment_in, wait_in, waits_of, risen}
+use Rattle.link_loop.specs.declared.TheConstants.{MOST_MESSAGES}
+use Rattle.link_loop.specs.Watches.{unwatched, watched, is_unopened, is_quiet, goodbye}
 use Rattle.link_loop.specs.Courses as courses
-use Rattle.link_loop.specs.Courses.{Outside, Leads, Course}
+use Rattle.link_loop.specs.Courses.{Outside, Leads, Course, SaysGoodbye, GivenUp}
 use Rattle.link_loop.proofs.DoingLaws.{goes_then, asked_then, rises_then, risen_then, carries_then, carries_none}
 
 -- ---- dialogues
@@ -106,6 +111,58 @@ module _ {P : Type 0} (answers : P → Call → Reply → P → Type 0) (gives :
     runs = rw (append-nil (turn_of doing), append-nil (exchanges_in doing), et, ee) runs;
   }
 
+  -- a course behind which only what is left is told anew
+  abbrev pub course_kept : (old between new : Outside P) (before : Served) (more : ℕ) (one : Course answers gives old between before more) → new.pass ≡ between.pass → Keeps between.left new.left → new.quiets ≡ between.quiets → new.put ≡ between.put
+      → new.faults ≡ between.faults → new.moment ≡ between.moment → Course answers gives old new before more
+  course_kept old between new before more one ep kl eq et ef em = record {
+    doings = one.doings;
+    left = one.left;
+    served = one.served;
+    leads = record {
+      passes = rw ep one.leads.passes;
+      pulled = Consumes-Keeps old.left between.left new.left (flat_map bytes_in one.doings) one.leads.pulled kl;
+      waited = eq ∙ one.leads.waited;
+      moments = rw em one.leads.moments;
+      put = rw (et, ef) one.leads.put;
+      asked = one.leads.asked;
+    };
+    runs = one.runs;
+  }
+
+  -- what was said to a client that is given up, behind what was sent before
+  says_behind : (end : LinkEnd) (first middle last : Option (List ℕ)) (before after : List ℕ) → Appends first middle before → SaysGoodbye end middle last after → SaysGoodbye end first last (before ++ after)
+  says_behind ends.Quiet first middle last before after sent s = rw (append_assoc before after goodbye) (Appends-trans first middle last before (after ++ goodbye) sent s)
+  says_behind ends.Fault first middle last before after sent s = rw (append_assoc before after goodbye) (Appends-AppendsPrefix first middle last before (after ++ goodbye) sent s)
+  says_behind ends.Closed first middle last before after sent s = absurd s
+  says_behind (ends.Refused code) first middle last before after sent s = absurd s
+  says_behind ends.Memory first middle last before after sent s = absurd s
+
+  -- a link that is given up, whose first course is nothing
+  pub given_up_behind : (end : LinkEnd) (old between new : Outside P) (start : Served) (first middle last : Option (List ℕ)) (due : Bool) → Leads answers gives old between MOST_MESSAGES MOST_MESSAGES [] → Appends first middle start.sent
+      → GivenUp answers gives end between new (untold start.link) middle last due → GivenUp answers gives end old new start first last due
+  given_up_behind end old between new start first middle last due leads sent g = record {
+    course = course_then old between new start MOST_MESSAGES (course_none old between start MOST_MESSAGES leads) g.course;
+    says = says_behind end first middle last start.sent g.course.served.sent sent g.says;
+    is_late = g.is_late;
+    is_shut = g.is_shut;
+    is_whole = g.is_whole;
+    due_is = g.due_is;
+  }
+
+  -- a link that is given up behind a course
+  pub gives_up : (end : LinkEnd) (old between new : Outside P) (before : Served) (first middle last : Option (List ℕ)) (due : Bool) (one : Course answers gives old between before MOST_MESSAGES) → Appends first middle one.served.sent
+      → new.pass ≡ between.pass → Keeps between.left new.left → new.quiets ≡ between.quiets → new.put ≡ between.put → new.faults ≡ between.faults → new.moment ≡ between.moment
+      → SaysGoodbye end middle last [] → (is_unopened (fold watched unwatched one.doings) || is_quiet (fold watched unwatched one.doings)) ≡ true → is_open one.served.link ≡ false → code_of one.served.link.conn ≡ None → due ≡ false
+      → GivenUp answers gives end old new before first last due
+  gives_up end old between new before first middle last due one sent ep kl eq et ef em says late shut whole e = record {
+    course = course_kept old between new before MOST_MESSAGES one ep kl eq et ef em;
+    says = subst (SaysGoodbye end first last) (append-nil one.served.sent) (says_behind end first middle last one.served.sent [] sent says);
+    is_late = late;
+    is_shut = shut;
+    is_whole = whole;
+    due_is = e;
+  }
+
   -- an end, behind a course
   pub ends_behind : (end : LinkEnd) (old between new : Outside P) (before : Served) (first middle last : Option (List ℕ)) (more : ℕ) (due : _) (one : Course answers gives old between before more) → Appends first middle one.served.sent
       → courses.Ends answers gives end between new (untold one.served.link) middle last one.left due → courses.Ends answers gives end old new before first last more due
@@ -127,3 +184,4 @@ module _ {P : Type 0} (answers : P → Call → Reply → P → Type 0) (gives :
     begins = e.begins;
     due_is = e.due_is;
   }
+  ends_behind ends.Quiet old between new before first middle last more due one sent e = absurd e

@@ -1,3 +1,4 @@
+pub mod WatchLaws
 pub mod CodeLaws
 pub mod DoingLaws
 pub mod CourseLaws

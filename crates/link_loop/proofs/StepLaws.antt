@@ -1,6 +1,7 @@
 -- Steps of a link's loop.
-use Rattle.std.proofs.Common.{◌≡◌, ℕ, ◌-◌, ◌<◌, ◌≤◌, ◌⊎◌, inl, inr, Bool, false, List, [], ◌∷◌, take, Option, Some, None, Result, Ok, Err, refl, sym, ap, subst, ◌∙◌, arith, append-nil}
-use Rattle.std.specs.Prelude.{IfOk}
+use Rattle.std.proofs.Common.{◌≡◌, ℕ, ◌-◌, ◌<◌, ◌≤◌, ◌⊎◌, inl, inr, Bool, true, false, List, [], ◌∷◌, take, Option, Some, None, Result, Ok, Err, refl, sym, ap, subst, ◌∙◌, arith, append-nil}
+use Rattle.std.specs.Prelude.{IfOk, ◌&&◌, ◌||◌, not, fold}
+use Rattle.std.proofs.lemmas.Grind.{fold-append}
 use Rattle.list_types.specs.declared.memory.NoMemory.{NoMemory}
 use Rattle.sw_edge.specs.Answers.{Puts}
 use Rattle.sw_edge.specs.Counts.{Rose, HasCause, StaysUnless}
@@ -25,12 +26,14 @@ use Rattle.link_loop.specs.declared.TheConstants.{MOST_MESSAGES}
 use Rattle.link_loop.specs.declared.ends.LinkEnd.{LinkEnd}
 use Rattle.link_loop.specs.declared.ends.LinkEnd.TheVariants as ends
 use Rattle.link_loop.specs.Doings.{Doing, Pulled, Waited, Given, turn_given, packet_given, turn_of, exchanges_in, Carries, more_behind}
+use Rattle.link_loop.specs.declared.watch.Watch.{Watch}
+use Rattle.link_loop.specs.Watches.{unwatched, watched, told, piece_seen, is_unopened, is_quiet}
 use Rattle.link_loop.specs.Courses as courses
-use Rattle.link_loop.specs.Courses.{Outside, Leads, Course, Lasts, IsUntouched, IsServed, Leaves, greeted, due_behind}
-use Rattle.link_loop.specs.Steps.{Pushes, PushesPiece, HeldTurns, BegunTurn, Takes, TakesOn, Steps, StepsOn, LastsOn, Delivered, DeliversOn, PullsNone, Pulls, PullsOn, GreetsOn}
+use Rattle.link_loop.specs.Courses.{Outside, Leads, Course, SaysGoodbye, Lasts, IsUntouched, IsServed, Leaves, greeted, due_behind}
+use Rattle.link_loop.specs.Steps.{Pushes, PushesPiece, HeldTurns, BegunTurn, Takes, TakesOn, Steps, StepsOn, LastsOn, is_given_up, Delivered, DeliversOn, PullsNone, Pulls, PullsOn, GreetsOn}
 use Rattle.link_loop.proofs.CodeLaws.{message_keeps, overflow_keeps}
 use Rattle.link_loop.proofs.DoingLaws.{unnoted, noted, carries_none}
-use Rattle.link_loop.proofs.CourseLaws.{leads_none, course_none, course_one, course_then, ends_behind}
+use Rattle.link_loop.proofs.CourseLaws.{leads_none, course_none, course_one, course_then, ends_behind, given_up_behind, gives_up}
 
 -- what was kept is nothing that was sent
 sent_nothing : {A : Type 0} (old new : Option (List A)) → Keeps old new → Appends old new []
@@ -54,6 +57,17 @@ put_carried sent.All old new before now port packet p cause stays =
     record { put = (port, packet) ∷ []; lost = 0; left_out = inl ([], refl, (refl, refl)); sent = p; faults = stays (λ e. absurd cc) }
 put_carried sent.Failed old new before now port packet p cause stays =
     record { put = []; lost = 1; left_out = inr (0, refl, (refl, refl)); sent = sent_nothing old new p; faults = cause.cause refl }
+
+-- both of two, of which the second is that something is not so
+and_first : (a b : Bool) → (a && b) ≡ true → a ≡ true
+and_first true b e = refl
+and_first false b e = e
+
+and_not : (a b : Bool) → (a && not b) ≡ true → b ≡ false
+and_not true true e = sym e
+and_not true false e = refl
+and_not false true e = sym e
+and_not false false e = refl
 
 module _ {P : Type 0} (answers : P → Call → Reply → P → Type 0) where
   -- ---- turns
@@ -95,6 +109,8 @@ module _ {P : Type 0} (answers : P → Call → Reply → P → Type 0) where
   turn_taken (Some ends.Fault) (Err e) old new old_sent new_sent before standing turn f h p = absurd p
   turn_taken (Some (ends.Refused c)) (Ok sent) old new old_sent new_sent before standing turn f h p = absurd p
   turn_taken (Some (ends.Refused c)) (Err e) old new old_sent new_sent before standing turn f h p = absurd p
+  turn_taken (Some ends.Quiet) (Ok sent) old new old_sent new_sent before standing turn f h p = absurd p
+  turn_taken (Some ends.Quiet) (Err e) old new old_sent new_sent before standing turn f h p = absurd p
   turn_taken (Some ends.Memory) (Ok sent) old new old_sent new_sent before standing turn f h p = absurd p
   turn_taken (Some ends.Memory) (Err e) old new old_sent new_sent before standing turn f h p = λ link el code. (serves_short old new e link standing turn (rw el at h), p)
 
@@ -124,6 +140,8 @@ module _ {P : Type 0} (answers : P → Call → Reply → P → Type 0) where
       let d = serves_whole old new link standing x.0 (Piece piece) (rw e at h) in
       (d.held, rw d.sent_is p.0, sym (code_is old new link standing (Piece piece ∷ []) d.held) ∙ sym c ∙ p.1)
   piece_taken (Some (ends.Refused k)) (Err e) old new old_sent new_sent before standing piece h c p = absurd p
+  piece_taken (Some ends.Quiet) (Ok x) old new old_sent new_sent before standing piece h c p = absurd p
+  piece_taken (Some ends.Quiet) (Err e) old new old_sent new_sent before standing piece h c p = absurd p
   piece_taken (Some ends.Memory) (Ok x) old new old_sent new_sent before standing piece h c p = absurd p
   piece_taken (Some ends.Memory) (Err e) old new old_sent new_sent before standing piece h c p = λ link el code. (serves_short old new e link standing (Piece piece) (rw el at h), p)
 
@@ -134,14 +152,15 @@ module _ {P : Type 0} (answers : P → Call → Reply → P → Type 0) where
   takes_before (Some ends.Closed) old new first middle last before standing turns k t = absurd t
   takes_before (Some ends.Fault) old new first middle last before standing turns k t = (t.0, (t.1.0, t.1.1, Keeps-Appends first middle last (take t.1.0 t.0.served.sent) k t.1.2))
   takes_before (Some (ends.Refused code)) old new first middle last before standing turns k t = (t.0, Keeps-Appends first middle last t.0.served.sent k t.1, t.2)
+  takes_before (Some ends.Quiet) old new first middle last before standing turns k t = absurd t
   takes_before (Some ends.Memory) old new first middle last before standing turns k t = (t.0, Keeps-trans first middle last k t.1)
 
   -- a pull that gave bytes
-  pub pull_served : (end : Option LinkEnd) (old new : P) (left between left_now : Option (List ℕ)) (quiets quiets_between quiets_now : ℕ) (first middle last : Option (List ℕ)) (before standing : Standing) (piece : List ℕ)
-      → Consumes left between piece → Keeps between left_now → quiets_between ≡ quiets → quiets_now ≡ quiets_between → Keeps first middle → TakesOn answers end old new middle last before standing (Piece piece ∷ [])
-      → PullsOn answers end old new left left_now quiets quiets_now first last before standing
-  pull_served end old new left between left_now quiets quiets_between quiets_now first middle last before standing piece c kl eb en ks t = λ link e code.
-      inl (piece, Consumes-Keeps left between left_now piece c kl, en ∙ eb, takes_before end old new first middle last link standing (Piece piece ∷ []) ks (t link e code))
+  pub pull_served : (end : Option LinkEnd) (old new : P) (left between left_now : Option (List ℕ)) (quiets quiets_between quiets_now : ℕ) (first middle last : Option (List ℕ)) (before standing : Standing) (piece : List ℕ) (watch seen : Watch)
+      → seen ≡ piece_seen piece watch → Consumes left between piece → Keeps between left_now → quiets_between ≡ quiets → quiets_now ≡ quiets_between → Keeps first middle → TakesOn answers end old new middle last before standing (Piece piece ∷ [])
+      → PullsOn answers end old new left left_now quiets quiets_now first last before standing watch seen
+  pull_served end old new left between left_now quiets quiets_between quiets_now first middle last before standing piece watch seen es c kl eb en ks t = λ link e code.
+      inl (piece, Consumes-Keeps left between left_now piece c kl, en ∙ eb, es, takes_before end old new first middle last link standing (Piece piece ∷ []) ks (t link e code))
 
   -- no turn
   pub none_taken : (pass : P) (sent : Option (List ℕ)) (standing : Standing) (turns : List Turn) → turns ≡ [] → TakesOn answers None pass pass sent sent standing standing turns
@@ -173,6 +192,7 @@ module _ {P : Type 0} (answers : P → Call → Reply → P → Type 0) where
       let e : h.served ≡ message_served message (untold link) = message_sent pass link standing message d.0 in
       (h, rw e d.1)
   message_step (Some (ends.Refused c)) pass old_sent new_sent link standing message code d = absurd d
+  message_step (Some ends.Quiet) pass old_sent new_sent link standing message code d = absurd d
   message_step (Some ends.Memory) pass old_sent new_sent link standing message code d =
       (record { turn = Message message; turn_is = refl; begun = record { exchanges = []; passes = ap (λ s. (pass, is_to_leave s)) d.0; begins = tt } }, d.1)
 
@@ -192,6 +212,8 @@ delivered_on (Some ends.Fault) (Ok sent) old_sent new_sent link (standings.Lost 
 delivered_on (Some ends.Fault) (Err e) old_sent new_sent link standing message d p = absurd p
 delivered_on (Some (ends.Refused c)) (Ok sent) old_sent new_sent link standing message d p = absurd p
 delivered_on (Some (ends.Refused c)) (Err e) old_sent new_sent link standing message d p = absurd p
+delivered_on (Some ends.Quiet) (Ok sent) old_sent new_sent link standing message d p = absurd p
+delivered_on (Some ends.Quiet) (Err e) old_sent new_sent link standing message d p = absurd p
 delivered_on (Some ends.Memory) (Ok sent) old_sent new_sent link standing message d p = absurd p
 delivered_on (Some ends.Memory) (Err e) old_sent new_sent link standing message d p = (d, p)
 
@@ -237,31 +259,33 @@ module _ {P : Type 0} (answers : P → Call → Reply → P → Type 0) (gives :
   }
 
   -- turns that were taken in one doing
-  took : (end : Option LinkEnd) (between : P) (old new : Outside P) (old_sent new_sent : Option (List ℕ)) (before : Link) (standing : Standing) (turns : List Turn) (more left : ℕ) (doing : List Exchange → Doing)
-      → ((exchanges : List Exchange) → turn_of (doing exchanges) ≡ turns) → ((exchanges : List Exchange) → exchanges_in (doing exchanges) ≡ exchanges)
+  took : (end : Option LinkEnd) (between : P) (old new : Outside P) (old_sent new_sent : Option (List ℕ)) (before : Link) (standing : Standing) (turns : List Turn) (more left : ℕ) (watch seen : Watch) (doing : List Exchange → Doing)
+      → ((exchanges : List Exchange) → seen ≡ watched watch (doing exchanges)) → ((exchanges : List Exchange) → turn_of (doing exchanges) ≡ turns) → ((exchanges : List Exchange) → exchanges_in (doing exchanges) ≡ exchanges)
       → ((exchanges : List Exchange) → Passes answers between exchanges new.pass → Leads answers gives old new more left (doing exchanges ∷ []))
-      → Takes answers end between new.pass old_sent new_sent before standing turns → Steps answers gives end old new old_sent new_sent before standing more left
-  took None between old new old_sent new_sent before standing turns more left doing et ee leads t = (
+      → Takes answers end between new.pass old_sent new_sent before standing turns → Steps answers gives end old new old_sent new_sent before standing more left watch seen
+  took None between old new old_sent new_sent before standing turns more left watch seen doing es et ee leads t = (
     course_one answers gives old new before more left (doing t.0.held.exchanges) turns t.0.held.exchanges t.0.served (leads t.0.held.exchanges t.0.held.passes) (et t.0.held.exchanges) (ee t.0.held.exchanges) t.0.held.runs,
     t.1,
     t.0.standing_is,
     refl,
     refl,
+    es t.0.held.exchanges,
     t.2,
   )
-  took (Some ends.Closed) between old new old_sent new_sent before standing turns more left doing et ee leads t = absurd t
-  took (Some ends.Fault) between old new old_sent new_sent before standing turns more left doing et ee leads t = (
+  took (Some ends.Closed) between old new old_sent new_sent before standing turns more left watch seen doing es et ee leads t = absurd t
+  took (Some ends.Fault) between old new old_sent new_sent before standing turns more left watch seen doing es et ee leads t = (
     course_one answers gives old new before more left (doing t.0.held.exchanges) turns t.0.held.exchanges t.0.served (leads t.0.held.exchanges t.0.held.passes) (et t.0.held.exchanges) (ee t.0.held.exchanges) t.0.held.runs,
     t.1,
     ap is_to_leave t.0.standing_is,
   )
-  took (Some (ends.Refused code)) between old new old_sent new_sent before standing turns more left doing et ee leads t = (
+  took (Some (ends.Refused code)) between old new old_sent new_sent before standing turns more left watch seen doing es et ee leads t = (
     course_one answers gives old new before more left (doing t.0.held.exchanges) turns t.0.held.exchanges t.0.served (leads t.0.held.exchanges t.0.held.passes) (et t.0.held.exchanges) (ee t.0.held.exchanges) t.0.held.runs,
     t.1,
     ap is_to_leave t.0.standing_is,
     t.2,
   )
-  took (Some ends.Memory) between old new old_sent new_sent before standing turns more left doing et ee leads t =
+  took (Some ends.Quiet) between old new old_sent new_sent before standing turns more left watch seen doing es et ee leads t = absurd t
+  took (Some ends.Memory) between old new old_sent new_sent before standing turns more left watch seen doing es et ee leads t =
       let begun = t.0.begun in
       record {
         between = old;
@@ -277,12 +301,12 @@ module _ {P : Type 0} (answers : P → Call → Reply → P → Type 0) (gives :
       }
 
   -- what waited, handed on
-  pub given_step : (end : Option LinkEnd) (between : P) (old new : Outside P) (old_sent new_sent : Option (List ℕ)) (before standing : Standing) (more left now : ℕ) (next : Option Next)
-      → gives old.pass now next between → TakesOn answers end between new.pass old_sent new_sent before standing (turn_given next)
+  pub given_step : (end : Option LinkEnd) (between : P) (old new : Outside P) (old_sent new_sent : Option (List ℕ)) (before standing : Standing) (more left now : ℕ) (next : Option Next) (watch seen : Watch)
+      → seen ≡ told now watch → gives old.pass now next between → TakesOn answers end between new.pass old_sent new_sent before standing (turn_given next)
       → Keeps old.left new.left → new.quiets ≡ old.quiets → Carries old.put new.put old.faults new.faults (packet_given next) → old.moment ≤ now → now ≡ new.moment → 0 < more → left ≡ more_behind next more
-      → StepsOn answers gives end old new old_sent new_sent before standing more left
-  given_step end between old new old_sent new_sent before standing more left now next g t kl eq c low high lt el = λ link e code.
-      took end between old new old_sent new_sent link standing (turn_given next) more left (Given now next) (λ exchanges. refl) (λ exchanges. refl)
+      → StepsOn answers gives end old new old_sent new_sent before standing more left watch seen
+  given_step end between old new old_sent new_sent before standing more left now next watch seen es g t kl eq c low high lt el = λ link e code.
+      took end between old new old_sent new_sent link standing (turn_given next) more left watch seen (Given now next) (λ exchanges. es) (λ exchanges. refl) (λ exchanges. refl)
       (λ exchanges p. leads_given old new more left now next exchanges between g p kl eq c low high lt el) (t link e code)
 
   -- a course of which nothing is done
@@ -290,18 +314,19 @@ module _ {P : Type 0} (answers : P → Call → Reply → P → Type 0) (gives :
       → new.put ≡ old.put → new.faults ≡ old.faults → new.moment ≡ old.moment → Leads answers gives old new more more []
   course_still old new before more ep kl eq et ef em = leads_none answers gives old new more ep kl eq et ef em
 
-  pulls_none : (end : Option LinkEnd) (old new : Outside P) (old_sent new_sent : Option (List ℕ)) (link : Link) (standing : Standing) (more : ℕ)
+  pulls_none : (end : Option LinkEnd) (old new : Outside P) (old_sent new_sent : Option (List ℕ)) (link : Link) (standing : Standing) (more : ℕ) (watch seen : Watch)
       → PullsNone end old.left new.left old.quiets new.quiets → new.pass ≡ old.pass → Keeps old_sent new_sent → standing ≡ standings.Serving link
-      → new.put ≡ old.put → new.faults ≡ old.faults → new.moment ≡ old.moment → more ≡ 0 → code_of link.conn ≡ None → Steps answers gives end old new old_sent new_sent link standing more MOST_MESSAGES
-  pulls_none None old new old_sent new_sent link standing more n ep ks es et ef em en code = (
+      → new.put ≡ old.put → new.faults ≡ old.faults → new.moment ≡ old.moment → more ≡ 0 → code_of link.conn ≡ None → seen ≡ watch → Steps answers gives end old new old_sent new_sent link standing more MOST_MESSAGES watch seen
+  pulls_none None old new old_sent new_sent link standing more watch seen n ep ks es et ef em en code ew = (
     course_one answers gives old new link more MOST_MESSAGES Waited [] [] (untold link) (leads_waited old new more ep n.0 n.1 et ef em en) refl refl refl,
     sent_nothing old_sent new_sent ks,
     es,
     refl,
     refl,
+    ew,
     code,
   )
-  pulls_none (Some ends.Closed) old new old_sent new_sent link standing more n ep ks es et ef em en code = (
+  pulls_none (Some ends.Closed) old new old_sent new_sent link standing more watch seen n ep ks es et ef em en code ew = (
     course_none answers gives old new (untold link) more (leads_none answers gives old new more ep n.0.2 n.1 et ef em),
     sent_nothing old_sent new_sent ks,
     ap is_to_leave es,
@@ -309,81 +334,97 @@ module _ {P : Type 0} (answers : P → Call → Reply → P → Type 0) (gives :
     n.0.1,
     code,
   )
-  pulls_none (Some ends.Fault) old new old_sent new_sent link standing more n ep ks es et ef em en code = (
+  pulls_none (Some ends.Fault) old new old_sent new_sent link standing more watch seen n ep ks es et ef em en code ew = (
     course_none answers gives old new (untold link) more (leads_none answers gives old new more ep n.0 n.1 et ef em),
     AppendsPrefix-all old_sent new_sent [] (sent_nothing old_sent new_sent ks),
     ap is_to_leave es,
   )
-  pulls_none (Some (ends.Refused c)) old new old_sent new_sent link standing more n ep ks es et ef em en code = absurd n
-  pulls_none (Some ends.Memory) old new old_sent new_sent link standing more n ep ks es et ef em en code = absurd n
+  pulls_none (Some (ends.Refused c)) old new old_sent new_sent link standing more watch seen n ep ks es et ef em en code ew = absurd n
+  pulls_none (Some ends.Quiet) old new old_sent new_sent link standing more watch seen n ep ks es et ef em en code ew = absurd n
+  pulls_none (Some ends.Memory) old new old_sent new_sent link standing more watch seen n ep ks es et ef em en code ew = absurd n
 
-  pulls_step : (end : Option LinkEnd) (old new : Outside P) (old_sent new_sent : Option (List ℕ)) (link : Link) (standing : Standing) (more : ℕ)
-      → Pulls answers end old.pass new.pass old.left new.left old.quiets new.quiets old_sent new_sent link standing
-      → new.put ≡ old.put → new.faults ≡ old.faults → new.moment ≡ old.moment → more ≡ 0 → code_of link.conn ≡ None → Steps answers gives end old new old_sent new_sent link standing more MOST_MESSAGES
-  pulls_step end old new old_sent new_sent link standing more (inl w) et ef em en code =
-      took end old.pass old new old_sent new_sent link standing (Piece w.0 ∷ []) more MOST_MESSAGES (Pulled w.0) (λ exchanges. refl) (λ exchanges. refl)
-      (λ exchanges p. leads_pulled old new more w.0 exchanges p w.1 w.2 et ef em en) w.3
-  pulls_step end old new old_sent new_sent link standing more (inr w) et ef em en code = pulls_none end old new old_sent new_sent link standing more w.0 w.1 w.2 w.3 et ef em en code
+  pulls_step : (end : Option LinkEnd) (old new : Outside P) (old_sent new_sent : Option (List ℕ)) (link : Link) (standing : Standing) (more : ℕ) (watch seen : Watch)
+      → Pulls answers end old.pass new.pass old.left new.left old.quiets new.quiets old_sent new_sent link standing watch seen
+      → new.put ≡ old.put → new.faults ≡ old.faults → new.moment ≡ old.moment → more ≡ 0 → code_of link.conn ≡ None → Steps answers gives end old new old_sent new_sent link standing more MOST_MESSAGES watch seen
+  pulls_step end old new old_sent new_sent link standing more watch seen (inl w) et ef em en code =
+      took end old.pass old new old_sent new_sent link standing (Piece w.0 ∷ []) more MOST_MESSAGES watch seen (Pulled w.0) (λ exchanges. w.3) (λ exchanges. refl) (λ exchanges. refl)
+      (λ exchanges p. leads_pulled old new more w.0 exchanges p w.1 w.2 et ef em en) w.4
+  pulls_step end old new old_sent new_sent link standing more watch seen (inr w) et ef em en code = pulls_none end old new old_sent new_sent link standing more watch seen w.0 w.1 w.2 w.3 et ef em en code w.4
 
   -- a pull, where nothing more is asked for
-  pub pulled_step : (end : Option LinkEnd) (old new : Outside P) (old_sent new_sent : Option (List ℕ)) (before standing : Standing) (more : ℕ)
-      → PullsOn answers end old.pass new.pass old.left new.left old.quiets new.quiets old_sent new_sent before standing
-      → new.put ≡ old.put → new.faults ≡ old.faults → new.moment ≡ old.moment → more ≡ 0 → StepsOn answers gives end old new old_sent new_sent before standing more MOST_MESSAGES
-  pulled_step end old new old_sent new_sent before standing more p et ef em en = λ link e code. pulls_step end old new old_sent new_sent link standing more (p link e code) et ef em en code
+  pub pulled_step : (end : Option LinkEnd) (old new : Outside P) (old_sent new_sent : Option (List ℕ)) (before standing : Standing) (more : ℕ) (watch seen : Watch)
+      → PullsOn answers end old.pass new.pass old.left new.left old.quiets new.quiets old_sent new_sent before standing watch seen
+      → new.put ≡ old.put → new.faults ≡ old.faults → new.moment ≡ old.moment → more ≡ 0 → StepsOn answers gives end old new old_sent new_sent before standing more MOST_MESSAGES watch seen
+  pulled_step end old new old_sent new_sent before standing more watch seen p et ef em en = λ link e code. pulls_step end old new old_sent new_sent link standing more watch seen (p link e code) et ef em en code
 
   -- ---- the loop
 
   -- a course so far
-  pub record Going (old new : Outside P) (old_sent new_sent : Option (List ℕ)) (before : Link) (standing : Standing) (left : ℕ) : Type 0 where
+  pub record Going (old new : Outside P) (old_sent new_sent : Option (List ℕ)) (before : Link) (standing : Standing) (left : ℕ) (watch : Watch) : Type 0 where
     pub course : Course answers gives old new (untold before) MOST_MESSAGES
     pub sent : Appends old_sent new_sent course.served.sent
     pub standing_is : standing ≡ standings.Serving course.served.link
     pub left_is : left ≡ course.left
+    pub seen : watch ≡ fold watched unwatched course.doings
     pub whole : code_of course.served.link.conn ≡ None
 
-  abbrev pub GoingOn : Outside P → Outside P → Option (List ℕ) → Option (List ℕ) → Standing → Standing → ℕ → Type 0
-  GoingOn old new old_sent new_sent before standing left = (link : Link) → before ≡ standings.Serving link → code_of link.conn ≡ None → Going old new old_sent new_sent link standing left
+  abbrev pub GoingOn : Outside P → Outside P → Option (List ℕ) → Option (List ℕ) → Standing → Standing → ℕ → Watch → Type 0
+  GoingOn old new old_sent new_sent before standing left watch = (link : Link) → before ≡ standings.Serving link → code_of link.conn ≡ None → Going old new old_sent new_sent link standing left watch
 
-  pub going_start : (old : Outside P) (sent : Option (List ℕ)) (standing : Standing) (left : ℕ) → left ≡ MOST_MESSAGES → GoingOn old old sent sent standing standing left
-  going_start old sent standing left el = λ link e code. record {
+  pub going_start : (old : Outside P) (sent : Option (List ℕ)) (standing : Standing) (left : ℕ) (watch : Watch) → left ≡ MOST_MESSAGES → watch ≡ unwatched → GoingOn old old sent sent standing standing left watch
+  going_start old sent standing left watch el ew = λ link e code. record {
     course = course_none answers gives old old (untold link) MOST_MESSAGES (leads_none answers gives old old MOST_MESSAGES refl (Keeps-refl old.left) refl refl refl refl);
     sent = Appends-nil sent;
     standing_is = e;
     left_is = el;
+    seen = ew;
     whole = code;
   }
 
-  going_then : (old between new : Outside P) (first middle last : Option (List ℕ)) (before : Link) (standing after : Standing) (more left : ℕ) (g : Going old between first middle before standing more)
-      → Steps answers gives None between new middle last g.course.served.link after g.course.left left → Going old new first last before after left
-  going_then old between new first middle last before standing after more left g s = record {
+  going_then : (old between new : Outside P) (first middle last : Option (List ℕ)) (before : Link) (standing after : Standing) (more left : ℕ) (watch seen : Watch) (g : Going old between first middle before standing more watch)
+      → Steps answers gives None between new middle last g.course.served.link after g.course.left left watch seen → Going old new first last before after left seen
+  going_then old between new first middle last before standing after more left watch seen g s = record {
     course = course_then answers gives old between new (untold before) MOST_MESSAGES g.course s.0;
     sent = Appends-trans first middle last g.course.served.sent s.0.served.sent g.sent s.1;
     standing_is = s.2;
     left_is = s.3;
-    whole = s.5;
+    seen = s.5 ∙ ap (λ w. fold watched w s.0.doings) g.seen ∙ sym (fold-append watched unwatched g.course.doings s.0.doings);
+    whole = s.6;
   }
 
-  pub going_more : (old between new : Outside P) (first middle last : Option (List ℕ)) (before standing after : Standing) (more left : ℕ) → GoingOn old between first middle before standing more
-      → StepsOn answers gives None between new middle last standing after more left → GoingOn old new first last before after left
-  going_more old between new first middle last before standing after more left g s = λ link e code.
+  pub going_more : (old between new : Outside P) (first middle last : Option (List ℕ)) (before standing after : Standing) (more left : ℕ) (watch seen : Watch) → GoingOn old between first middle before standing more watch
+      → StepsOn answers gives None between new middle last standing after more left watch seen → GoingOn old new first last before after left seen
+  going_more old between new first middle last before standing after more left watch seen g s = λ link e code.
       let here = g link e code in
-      let step : Steps answers gives None between new middle last here.course.served.link after here.course.left left = subst (λ k. Steps answers gives None between new middle last here.course.served.link after k left) here.left_is (s here.course.served.link here.standing_is here.whole) in
-      going_then old between new first middle last link standing after more left here step
+      let step : Steps answers gives None between new middle last here.course.served.link after here.course.left left watch seen = subst (λ k. Steps answers gives None between new middle last here.course.served.link after k left watch seen) here.left_is (s here.course.served.link here.standing_is here.whole) in
+      going_then old between new first middle last link standing after more left watch seen here step
 
-  pub going_ends : (end : LinkEnd) (old between new : Outside P) (first middle last : Option (List ℕ)) (before standing after : Standing) (more left : ℕ) → GoingOn old between first middle before standing more
-      → StepsOn answers gives (Some end) between new middle last standing after more left → LastsOn answers gives end old new first last before after
-  going_ends end old between new first middle last before standing after more left g s = λ link e code.
+  pub going_ends : (end : LinkEnd) (old between new : Outside P) (first middle last : Option (List ℕ)) (before standing after : Standing) (more left : ℕ) (watch seen : Watch) → GoingOn old between first middle before standing more watch
+      → StepsOn answers gives (Some end) between new middle last standing after more left watch seen → LastsOn answers gives end old new first last before after
+  going_ends end old between new first middle last before standing after more left watch seen g s = λ link e code.
       let here = g link e code in
       let ends : courses.Ends answers gives end between new (untold here.course.served.link) middle last here.course.left (is_to_leave after) =
       subst (λ k. courses.Ends answers gives end between new (untold here.course.served.link) middle last k (is_to_leave after)) here.left_is (s here.course.served.link here.standing_is here.whole) in
-      ends_behind answers gives end old between new (untold link) first middle last MOST_MESSAGES (is_to_leave after) here.course here.sent ends
+      inl (ends_behind answers gives end old between new (untold link) first middle last MOST_MESSAGES (is_to_leave after) here.course here.sent ends)
+
+  -- behind a course the link is given up
+  pub going_given_up : (end : LinkEnd) (old between new : Outside P) (first middle last : Option (List ℕ)) (before standing : Standing) (left : ℕ) (watch : Watch) → GoingOn old between first middle before standing left watch
+      → is_given_up watch standing ≡ true → SaysGoodbye end middle last []
+      → new.pass ≡ between.pass → Keeps between.left new.left → new.quiets ≡ between.quiets → new.put ≡ between.put → new.faults ≡ between.faults → new.moment ≡ between.moment
+      → LastsOn answers gives end old new first last before standing
+  going_given_up end old between new first middle last before standing left watch g due says ep kl eq et ef em = λ link e code.
+      let here = g link e code in
+      let late : (is_unopened watch || is_quiet watch) ≡ true = and_first (is_unopened watch || is_quiet watch) (not (is_to_leave standing)) due in
+      let stays : is_to_leave standing ≡ false = and_not (is_unopened watch || is_quiet watch) (is_to_leave standing) due in
+      inr (gives_up answers gives end old between new (untold link) first middle last (is_to_leave standing) here.course here.sent ep kl eq et ef em says (rw here.seen at late) (sym (ap is_to_leave here.standing_is) ∙ stays) here.whole stays)
 
   -- ---- the beginning
 
   lasts_behind : (end : LinkEnd) (old between new : Outside P) (start : Served) (first middle last : Option (List ℕ)) (due : Bool) → Leads answers gives old between MOST_MESSAGES MOST_MESSAGES [] → Appends first middle start.sent
       → Lasts answers gives end between new (untold start.link) middle last due → Lasts answers gives end old new start first last due
-  lasts_behind end old between new start first middle last due leads sent e =
-      ends_behind answers gives end old between new start first middle last MOST_MESSAGES due (course_none answers gives old between start MOST_MESSAGES leads) sent e
+  lasts_behind end old between new start first middle last due leads sent (inl e) =
+      inl (ends_behind answers gives end old between new start first middle last MOST_MESSAGES due (course_none answers gives old between start MOST_MESSAGES leads) sent e)
+  lasts_behind end old between new start first middle last due leads sent (inr e) = inr (given_up_behind answers gives end old between new start first middle last due leads sent e)
 
   alone : {X : Type 0} (x end : X) (exchanges : List Exchange) (old new : P) → Passes answers old exchanges new → Runs (Ends x) exchanges end → (new ≡ old) × (end ≡ x)
   alone x end [] old new p r = (p, r)
@@ -410,15 +451,16 @@ module _ {P : Type 0} (answers : P → Call → Reply → P → Type 0) (gives :
   greeting_ends ends.Closed lane old new old_sent new_sent standing t leads = absurd t
   greeting_ends ends.Fault lane old new old_sent new_sent standing t leads =
       let h = greeting_held lane old.pass new.pass standing t.0 in
-      inl (course_none answers gives old new (greeted lane) MOST_MESSAGES (leads h.0), subst (λ s. AppendsPrefix old_sent new_sent s.sent) h.1 t.1, ap is_to_leave t.0.standing_is ∙ ap (λ s. is_open s.link) h.1)
+      inl (inl (course_none answers gives old new (greeted lane) MOST_MESSAGES (leads h.0), subst (λ s. AppendsPrefix old_sent new_sent s.sent) h.1 t.1, ap is_to_leave t.0.standing_is ∙ ap (λ s. is_open s.link) h.1))
   greeting_ends (ends.Refused code) lane old new old_sent new_sent standing t leads =
       let h = greeting_held lane old.pass new.pass standing t.0 in
-      inl (
+      inl (inl (
         course_none answers gives old new (greeted lane) MOST_MESSAGES (leads h.0),
         subst (λ s. Appends old_sent new_sent s.sent) h.1 t.1,
         ap is_to_leave t.0.standing_is ∙ ap (λ s. is_open s.link) h.1,
         ap (λ s. code_of s.link.conn) (sym h.1) ∙ t.2,
-      )
+      ))
+  greeting_ends ends.Quiet lane old new old_sent new_sent standing t leads = absurd t
   greeting_ends ends.Memory lane old new old_sent new_sent standing t leads =
       let et : t.0.turn ≡ Piece [] = cc t.0.turn_is in
       let h = greeting_begun lane old.pass new.pass standing t.0.turn et t.0.begun in

@@ -1,5 +1,5 @@
 -- The course of a link: what was done on it, what that made of its service, and how it ended.
-use Rattle.std.specs.Prelude.{◌≡◌, ℕ, ◌⊎◌, Bool, true, false, List, [], ◌∷◌, Option, Some, None}
+use Rattle.std.specs.Prelude.{◌≡◌, ℕ, ◌⊎◌, Bool, true, false, List, [], ◌∷◌, ◌++◌, ◌||◌, fold, Option, Some, None}
 use Rattle.sw_edge.specs.Told.{Keeps, Consumes, Appends, AppendsPrefix, IsAtEnd}
 use Rattle.h2_conn.specs.Bytes.{code_of}
 use Rattle.p4_types.specs.declared.calls.Call.{Call}
@@ -13,6 +13,7 @@ use Rattle.link_loop.specs.declared.TheConstants.{MOST_MESSAGES}
 use Rattle.link_loop.specs.declared.ends.LinkEnd.{LinkEnd}
 use Rattle.link_loop.specs.declared.ends.LinkEnd.TheVariants as ends
 use Rattle.link_loop.specs.Doings.{Doing, turn_of, turns_of, exchanges_in, exchanges_of, bytes_of, packets_of, moments_of, waits_of, GoesOn, IsAsked, Rises, risen, Carries}
+use Rattle.link_loop.specs.Watches.{unwatched, watched, is_unopened, is_quiet, goodbye}
 
 -- what a link's course changes but for what is sent on it: the pass, the bytes that are left to pull and how often there were none, the packets that were put and how often the ports failed, and the last moment that the clock told
 pub record Outside (P : Type 0) : Type 0 where
@@ -58,7 +59,7 @@ pub record Broken {P : Type 0} (answers : P → Call → Reply → P → Type 0)
   pub begins : Begins (turn_served turn (untold course.served.link)) (exchanges_in last)
   pub due_is : due ≡ due_behind (is_open course.served.link) (exchanges_in last)
 
--- A course to an end, whether the controller is then still to leave, and what was sent. A link is closed where its bytes have ended behind a pull for which all was asked that is to be, and no breach has ended the connection; it is refused where a breach has, by the breach's code. At a fault of the link some first bytes of what was served were sent.
+-- A course to the end that its last doing makes, whether the controller is then still to leave, and what was sent. A link is closed where its bytes have ended behind a pull for which all was asked that is to be, and no breach has ended the connection; it is refused where a breach has, by the breach's code. At a fault of the link some first bytes of what was served were sent.
 abbrev pub Ends : {P : Type 0} → (P → Call → Reply → P → Type 0) → (P → ℕ → Option Next → P → Type 0) → LinkEnd → Outside P → Outside P → Served → Option (List ℕ) → Option (List ℕ) → ℕ → Bool → Type 0
 Ends answers gives ends.Closed old new before old_sent new_sent more due =
     (course : Course answers gives old new before more) × Appends old_sent new_sent course.served.sent × (due ≡ is_open course.served.link)
@@ -69,10 +70,28 @@ Ends answers gives (ends.Refused code) old new before old_sent new_sent more due
     (course : Course answers gives old new before more) × Appends old_sent new_sent course.served.sent × (due ≡ is_open course.served.link)
     × (code_of course.served.link.conn ≡ Some code)
 Ends answers gives ends.Memory old new before old_sent new_sent more due = Broken answers gives old new before old_sent new_sent more due
+Ends answers gives ends.Quiet old new before old_sent new_sent more due = ⊥
 
--- the course of a link to its end, from the first time that it is asked what waits
+-- GOAWAY goes out behind what was served, or, where the link fails, some first bytes of both do.
+abbrev pub SaysGoodbye : LinkEnd → Option (List ℕ) → Option (List ℕ) → List ℕ → Type 0
+SaysGoodbye ends.Quiet old new served = Appends old new (served ++ goodbye)
+SaysGoodbye ends.Fault old new served = AppendsPrefix old new (served ++ goodbye)
+SaysGoodbye end old new served = ⊥
+
+-- A course behind which a link is given up: by the link's own clock the time for what the client says first has passed, and it has not come whole, or nothing has come for long; no breach has ended the connection, and no channel is open, so that nobody is to leave.
+pub record GivenUp {P : Type 0} (answers : P → Call → Reply → P → Type 0) (gives : P → ℕ → Option Next → P → Type 0) (end : LinkEnd) (old new : Outside P) (before : Served) (old_sent new_sent : Option (List ℕ)) (due : Bool) : Type 0 where
+  pub course : Course answers gives old new before MOST_MESSAGES
+  pub says : SaysGoodbye end old_sent new_sent course.served.sent
+  pub is_late : (is_unopened (fold watched unwatched course.doings) || is_quiet (fold watched unwatched course.doings)) ≡ true
+  pub is_shut : is_open course.served.link ≡ false
+  pub is_whole : code_of course.served.link.conn ≡ None
+  pub due_is : due ≡ false
+
+-- the course of a link to its end, from the first time that it is asked what waits; where it is closed for being quiet, it was given up
 abbrev pub Lasts : {P : Type 0} → (P → Call → Reply → P → Type 0) → (P → ℕ → Option Next → P → Type 0) → LinkEnd → Outside P → Outside P → Served → Option (List ℕ) → Option (List ℕ) → Bool → Type 0
-Lasts answers gives end old new before old_sent new_sent due = Ends answers gives end old new before old_sent new_sent MOST_MESSAGES due
+Lasts answers gives end old new before old_sent new_sent due =
+    Ends answers gives end old new before old_sent new_sent MOST_MESSAGES due
+    ⊎ GivenUp answers gives end old new before old_sent new_sent due
 
 -- Nothing was done for want of memory.
 abbrev pub IsUntouched : {P : Type 0} → (P → Call → Reply → P → Type 0) → (P → ℕ → Option Next → P → Type 0) → LinkEnd → Outside P → Outside P → Option (List ℕ) → Option (List ℕ) → Type 0

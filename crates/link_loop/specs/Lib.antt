@@ -1,4 +1,5 @@
 pub mod Doings
+pub mod Watches
 pub mod Courses
 pub mod Steps
 pub mod Lists

@@ -1,5 +1,5 @@
 -- What a step of a link's loop does.
-use Rattle.std.specs.Prelude.{◌≡◌, ℕ, ◌⊎◌, false, List, [], ◌∷◌, length, Option, Some, None, Result, Ok, Err}
+use Rattle.std.specs.Prelude.{◌≡◌, ℕ, ◌⊎◌, ◌&&◌, ◌||◌, not, Bool, false, List, [], ◌∷◌, fold, length, Option, Some, None, Result, Ok, Err}
 use Rattle.list_types.specs.declared.memory.NoMemory.{NoMemory}
 use Rattle.sw_edge.specs.Told.{Keeps, Consumes, Appends, AppendsPrefix, Ends}
 use Rattle.sw_edge.specs.Counts.{Rose}
@@ -17,6 +17,8 @@ use Rattle.p4rt_service.specs.Serving.{is_open}
 use Rattle.p4rt_service.specs.Turns.{Served, Turn, Piece, opened, untold, message_served, turn_served, turns_served, is_to_leave}
 use Rattle.link_loop.specs.declared.ends.LinkEnd.{LinkEnd}
 use Rattle.link_loop.specs.declared.ends.LinkEnd.TheVariants as ends
+use Rattle.link_loop.specs.declared.watch.Watch.{Watch}
+use Rattle.link_loop.specs.Watches.{watched, piece_seen, is_unopened, is_quiet}
 use Rattle.link_loop.specs.Courses as courses
 use Rattle.link_loop.specs.Courses.{Outside, Course, Lasts, IsUntouched, greeted}
 
@@ -57,23 +59,28 @@ Takes answers (Some ends.Fault) old new old_sent new_sent before standing turns 
 Takes answers (Some (ends.Refused code)) old new old_sent new_sent before standing turns =
     (held : HeldTurns answers old new before standing turns) × Appends old_sent new_sent held.served.sent × (code_of held.served.link.conn ≡ Some code)
 Takes answers (Some ends.Memory) old new old_sent new_sent before standing turns = BegunTurn answers old new before standing turns × Keeps old_sent new_sent
+Takes answers (Some ends.Quiet) old new old_sent new_sent before standing turns = ⊥
 
 -- the same, on a service that serves a link without a breach
 abbrev pub TakesOn : {P : Type 0} → (P → Call → Reply → P → Type 0) → Option LinkEnd → P → P → Option (List ℕ) → Option (List ℕ) → Standing → Standing → List Turn → Type 0
 TakesOn answers end old new old_sent new_sent before standing turns =
     (link : Link) → before ≡ standings.Serving link → code_of link.conn ≡ None → Takes answers end old new old_sent new_sent link standing turns
 
--- one doing, behind which the link goes on, or the end of its course
-abbrev pub Steps : {P : Type 0} → (P → Call → Reply → P → Type 0) → (P → ℕ → Option Next → P → Type 0) → Option LinkEnd → Outside P → Outside P → Option (List ℕ) → Option (List ℕ) → Link → Standing → ℕ → ℕ → Type 0
-Steps answers gives None old new old_sent new_sent before standing more left =
+-- one doing, which is seen and behind which the link goes on, or the end of its course
+abbrev pub Steps : {P : Type 0} → (P → Call → Reply → P → Type 0) → (P → ℕ → Option Next → P → Type 0) → Option LinkEnd → Outside P → Outside P → Option (List ℕ) → Option (List ℕ) → Link → Standing → ℕ → ℕ → Watch → Watch → Type 0
+Steps answers gives None old new old_sent new_sent before standing more left watch seen =
     (course : Course answers gives old new (untold before) more) × Appends old_sent new_sent course.served.sent × (standing ≡ standings.Serving course.served.link)
-    × (left ≡ course.left) × (length course.doings ≡ 1) × (code_of course.served.link.conn ≡ None)
-Steps answers gives (Some end) old new old_sent new_sent before standing more left = courses.Ends answers gives end old new (untold before) old_sent new_sent more (is_to_leave standing)
+    × (left ≡ course.left) × (length course.doings ≡ 1) × (seen ≡ fold watched watch course.doings) × (code_of course.served.link.conn ≡ None)
+Steps answers gives (Some end) old new old_sent new_sent before standing more left watch seen = courses.Ends answers gives end old new (untold before) old_sent new_sent more (is_to_leave standing)
 
 -- the same, on a service that serves a link without a breach
-abbrev pub StepsOn : {P : Type 0} → (P → Call → Reply → P → Type 0) → (P → ℕ → Option Next → P → Type 0) → Option LinkEnd → Outside P → Outside P → Option (List ℕ) → Option (List ℕ) → Standing → Standing → ℕ → ℕ → Type 0
-StepsOn answers gives end old new old_sent new_sent before standing more left =
-    (link : Link) → before ≡ standings.Serving link → code_of link.conn ≡ None → Steps answers gives end old new old_sent new_sent link standing more left
+abbrev pub StepsOn : {P : Type 0} → (P → Call → Reply → P → Type 0) → (P → ℕ → Option Next → P → Type 0) → Option LinkEnd → Outside P → Outside P → Option (List ℕ) → Option (List ℕ) → Standing → Standing → ℕ → ℕ → Watch → Watch → Type 0
+StepsOn answers gives end old new old_sent new_sent before standing more left watch seen =
+    (link : Link) → before ≡ standings.Serving link → code_of link.conn ≡ None → Steps answers gives end old new old_sent new_sent link standing more left watch seen
+
+-- the time for what a client says first has passed, or nothing has come for long, and no channel is open
+abbrev pub is_given_up : Watch → Standing → Bool
+is_given_up watch standing = (is_unopened watch || is_quiet watch) && not (is_to_leave standing)
 
 -- a course to its end, on a service that serves a link without a breach
 abbrev pub LastsOn : {P : Type 0} → (P → Call → Reply → P → Type 0) → (P → ℕ → Option Next → P → Type 0) → LinkEnd → Outside P → Outside P → Option (List ℕ) → Option (List ℕ) → Standing → Standing → Type 0
@@ -100,16 +107,16 @@ PullsNone (Some ends.Closed) old new before now = Ends old new × (now ≡ befor
 PullsNone (Some ends.Fault) old new before now = Keeps old new × (now ≡ before)
 PullsNone end old new before now = ⊥
 
--- one pull that gave bytes, which were served, or a pull that gave none
-abbrev pub Pulls : {P : Type 0} → (P → Call → Reply → P → Type 0) → Option LinkEnd → P → P → Option (List ℕ) → Option (List ℕ) → ℕ → ℕ → Option (List ℕ) → Option (List ℕ) → Link → Standing → Type 0
-Pulls answers end old new left_before left_now quiets_before quiets_now old_sent new_sent before standing =
-    ((piece : List ℕ) × Consumes left_before left_now piece × (quiets_now ≡ quiets_before) × Takes answers end old new old_sent new_sent before standing (Piece piece ∷ []))
-    ⊎ (PullsNone end left_before left_now quiets_before quiets_now × (new ≡ old) × Keeps old_sent new_sent × (standing ≡ standings.Serving before))
+-- one pull that gave bytes, which were seen and served, or a pull that gave none
+abbrev pub Pulls : {P : Type 0} → (P → Call → Reply → P → Type 0) → Option LinkEnd → P → P → Option (List ℕ) → Option (List ℕ) → ℕ → ℕ → Option (List ℕ) → Option (List ℕ) → Link → Standing → Watch → Watch → Type 0
+Pulls answers end old new left_before left_now quiets_before quiets_now old_sent new_sent before standing watch seen =
+    ((piece : List ℕ) × Consumes left_before left_now piece × (quiets_now ≡ quiets_before) × (seen ≡ piece_seen piece watch) × Takes answers end old new old_sent new_sent before standing (Piece piece ∷ []))
+    ⊎ (PullsNone end left_before left_now quiets_before quiets_now × (new ≡ old) × Keeps old_sent new_sent × (standing ≡ standings.Serving before) × (seen ≡ watch))
 
 -- the same, on a service that serves a link without a breach
-abbrev pub PullsOn : {P : Type 0} → (P → Call → Reply → P → Type 0) → Option LinkEnd → P → P → Option (List ℕ) → Option (List ℕ) → ℕ → ℕ → Option (List ℕ) → Option (List ℕ) → Standing → Standing → Type 0
-PullsOn answers end old new left_before left_now quiets_before quiets_now old_sent new_sent before standing =
-    (link : Link) → before ≡ standings.Serving link → code_of link.conn ≡ None → Pulls answers end old new left_before left_now quiets_before quiets_now old_sent new_sent link standing
+abbrev pub PullsOn : {P : Type 0} → (P → Call → Reply → P → Type 0) → Option LinkEnd → P → P → Option (List ℕ) → Option (List ℕ) → ℕ → ℕ → Option (List ℕ) → Option (List ℕ) → Standing → Standing → Watch → Watch → Type 0
+PullsOn answers end old new left_before left_now quiets_before quiets_now old_sent new_sent before standing watch seen =
+    (link : Link) → before ≡ standings.Serving link → code_of link.conn ≡ None → Pulls answers end old new left_before left_now quiets_before quiets_now old_sent new_sent link standing watch seen
 
 -- a course from its first byte to its end, on a service of which nothing has come
 abbrev pub GreetsOn : {P : Type 0} → (P → Call → Reply → P → Type 0) → (P → ℕ → Option Next → P → Type 0) → LinkEnd → Outside P → Outside P → Option (List ℕ) → Option (List ℕ) → Standing → Standing → Type 0

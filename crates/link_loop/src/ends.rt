@@ -12,4 +12,6 @@ pub enum LinkEnd {
     Refused(H2Code),
     /// Memory was missing.
     Memory,
+    /// The client was quiet for too long, which was answered with GOAWAY without an error.
+    Quiet,
 }

@@ -8,6 +8,7 @@ ghost use Rattle.link_loop.specs.Steps.{DeliversOn, StepsOn, TakesOn};
 
 use crate::ends::LinkEnd;
 use crate::sending::push_served;
+use crate::watch::Watch;
 use p4_types::messages::StreamMessageResponse;
 use p4_types::records::Output;
 use p4rt_service::{Desk, Next, Service};
@@ -120,6 +121,7 @@ pub(crate) fn give_next<L: Link, P: Ports, D: Desk, K: Clock>(
     clock: &mut K,
     service: &mut Service,
     more: &mut u16,
+    watch: &mut Watch,
 ) -> Option<LinkEnd>
     requires of { D.is_of desk.now pass.old }
     requires asked { 0 < more.old }
@@ -127,7 +129,7 @@ pub(crate) fn give_next<L: Link, P: Ports, D: Desk, K: Clock>(
     ensures steps { StepsOn D.answers D.gives result
         (record { pass = pass.old; left = L.left link.old; quiets = L.quiets link.old; put = P.sent ports.old; faults = P.faults ports.old; moment = K.last clock.old })
         (record { pass = pass.new; left = L.left link.new; quiets = L.quiets link.new; put = P.sent ports.new; faults = P.faults ports.new; moment = K.last clock.new })
-        (L.sent link.old) (L.sent link.new) service.old service.new more.old more.new }
+        (L.sent link.old) (L.sent link.new) service.old service.new more.old more.new watch.old watch.new }
     ensures keeps_ports { Keeps (P.left ports.old) (P.left ports.new) }
     ensures ports_quiet { P.quiets ports.new ≡ P.quiets ports.old }
     ensures ports_end { P.ends ports.new ≡ P.ends ports.old }
@@ -137,6 +139,7 @@ pub(crate) fn give_next<L: Link, P: Ports, D: Desk, K: Clock>(
     ensures no_end { StaysUnless (L.ends link.old) (L.ends link.new) (result ≡ Some LinkEnd.Closed) }
 {
     let now = clock.now();
+    watch.tell(now);
     let next = desk.next(alloc, pass, now);
     *more = more_behind(&next, *more);
     hand_on(alloc, next, link, ports, desk, pass, service)

@@ -7,6 +7,7 @@ ghost use Rattle.link_loop.specs.Steps.{PullsOn, TakesOn};
 
 use crate::ends::LinkEnd;
 use crate::sending::push_piece;
+use crate::watch::Watch;
 use p4rt_service::{Desk, Service};
 use std::alloc::Global;
 use sw_edge::{Link, Pulled};
@@ -42,18 +43,23 @@ pub(crate) fn pull_once<L: Link, D: Desk>(
     pass: &mut D::Pass,
     service: &mut Service,
     buffer: &mut [u8],
+    watch: &mut Watch,
 ) -> Option<LinkEnd>
     requires of { D.is_of desk.now pass.old }
     requires room { 0 < length buffer.old }
     ensures of { D.is_of desk.now pass.new }
-    ensures steps { PullsOn D.answers result pass.old pass.new (L.left link.old) (L.left link.new) (L.quiets link.old) (L.quiets link.new) (L.sent link.old) (L.sent link.new) service.old service.new }
+    ensures steps { PullsOn D.answers result pass.old pass.new (L.left link.old) (L.left link.new) (L.quiets link.old) (L.quiets link.new) (L.sent link.old) (L.sent link.new) service.old service.new watch.old watch.new }
     ensures failed { HasCause (L.faults link.old) (L.faults link.new) (result ≡ Some LinkEnd.Fault) }
     ensures no_fault { StaysUnless (L.faults link.old) (L.faults link.new) (result ≡ Some LinkEnd.Fault) }
     ensures end { HasCause (L.ends link.old) (L.ends link.new) (result ≡ Some LinkEnd.Closed) }
     ensures no_end { StaysUnless (L.ends link.old) (L.ends link.new) (result ≡ Some LinkEnd.Closed) }
 {
     match link.pull(buffer) {
-        Pulled::Bytes(count) => serve_piece(alloc, &buffer[..count], link, desk, pass, service),
+        Pulled::Bytes(count) => {
+            let piece = &buffer[..count];
+            watch.see(piece);
+            serve_piece(alloc, piece, link, desk, pass, service)
+        }
         Pulled::Quiet => None,
         Pulled::End => Some(LinkEnd::Closed),
         Pulled::Failed => Some(LinkEnd::Fault),

@@ -1,8 +1,9 @@
 //! What a link is sent.
-ghost use Rattle.std.specs.Prelude.{◌≡◌, ◌≢◌, Some};
+ghost use Rattle.std.specs.Prelude.{◌≡◌, ◌≢◌, [], Some};
 ghost use Rattle.sw_edge.specs.Answers.{Sends};
 ghost use Rattle.sw_edge.specs.Counts.{HasCause, StaysUnless};
 ghost use Rattle.sw_edge.specs.Told.{Keeps};
+ghost use Rattle.link_loop.specs.Courses.{SaysGoodbye};
 ghost use Rattle.link_loop.specs.Steps.{Pushes, PushesPiece};
 
 use crate::ends::LinkEnd;
@@ -69,5 +70,24 @@ pub(crate) fn push_piece<L: Link>(
                 Some(code) => Some(LinkEnd::Refused(code)),
             },
         },
+    }
+}
+
+// GOAWAY of stream 0 without an error, and with the greatest number as the last stream.
+const GOODBYE: [u8; 17] = [0, 0, 8, 7, 0, 0, 0, 0, 0, 127, 255, 255, 255, 0, 0, 0, 0];
+
+/// Pushes GOAWAY to a client that was quiet for too long.
+pub(crate) fn say_goodbye<L: Link>(link: &mut L) -> LinkEnd
+    ensures says { SaysGoodbye result (L.sent link.old) (L.sent link.new) [] }
+    ensures not_closed { result ≢ LinkEnd.Closed }
+    ensures keeps_left { Keeps (L.left link.old) (L.left link.new) }
+    ensures failed { HasCause (L.faults link.old) (L.faults link.new) (result ≡ LinkEnd.Fault) }
+    ensures no_fault { StaysUnless (L.faults link.old) (L.faults link.new) (result ≡ LinkEnd.Fault) }
+    ensures quiet { L.quiets link.new ≡ L.quiets link.old }
+    ensures end { L.ends link.new ≡ L.ends link.old }
+{
+    match link.push(&GOODBYE) {
+        Sent::All => LinkEnd::Quiet,
+        Sent::Failed => LinkEnd::Fault,
     }
 }

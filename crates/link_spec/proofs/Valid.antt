@@ -72,6 +72,7 @@ is_standard raw info k =
       egress_spec = field_fits raw info 0 types _ _ (bits_there (field_by_names raw (codes "standard_metadata") (codes "egress_spec")) k.rules.egress_spec);
       nine_bits = eqb-true (bits_of_names raw (codes "standard_metadata") (codes "egress_spec")) 9 k.rules.egress_spec;
       egress_port = standard_linked raw info types _;
+      egress_rid = standard_linked raw info types _;
       mcast_grp = standard_linked raw info types _;
       parser_error = standard_linked raw info types _;
       checksum_error = standard_linked raw info types _;

@@ -102,6 +102,7 @@ standard_metadata_of raw =
       packet_length = standard_field raw (codes "packet_length");
       egress_spec = field_by raw (codes "standard_metadata") (codes "egress_spec");
       egress_port = standard_field raw (codes "egress_port");
+      egress_rid = standard_field raw (codes "egress_rid");
       mcast_grp = standard_field raw (codes "mcast_grp");
       parser_error = standard_field raw (codes "parser_error");
       checksum_error = standard_field raw (codes "checksum_error");

@@ -5,3 +5,5 @@
 mod links;
 #[cfg(test)]
 mod noting;
+#[cfg(test)]
+mod quiet;

@@ -2,7 +2,7 @@
 ghost use Rattle.std.specs.Prelude.{◌<◌};
 
 use crate::noting::{NotingDesk, NotingPass};
-use link_loop::{LinkEnd, ListDesk, ListPass, serve_link};
+use link_loop::{EnoughRoom, LinkEnd, ListDesk, ListPass, serve_link};
 use list_types::{ByteList, List};
 use p4_types::calls::Reply;
 use p4_types::code::Code;
@@ -100,6 +100,7 @@ fn served<D: Desk, W: Wait>(
         desk,
         pass,
         &mut clock,
+        &mut EnoughRoom,
     )
 }
 

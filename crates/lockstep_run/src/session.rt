@@ -89,7 +89,7 @@ fn recorded(
     verdict: &Verdict,
 ) -> Result<Record, NoMemory>
     ensures record { IfOk result (λ r. r ≡ record_of who index image.now.steps (receiver image.now.now) verdict.now) }
-    ensures few { IfOk result (λ r. length r.hits ≤ 16640) }
+    ensures few { IfOk result (λ r. length r.hits ≤ 274560) }
 {
     Ok(Record {
         who,
@@ -116,7 +116,7 @@ fn carry(
     verdict: &mut Verdict,
 ) -> Result<Record, NoMemory>
     ensures record { IfOk result (λ r. r ≡ carried who index image.now.steps image.now.now port packet.now) }
-    ensures few { IfOk result (λ r. length r.hits ≤ 16640) }
+    ensures few { IfOk result (λ r. length r.hits ≤ 274560) }
 {
     pkt_worker::run(image.active(), image.cpu(), port, packet, scratch, verdict);
     recorded(alloc, image, who, index, verdict)

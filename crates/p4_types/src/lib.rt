@@ -9,6 +9,7 @@ pub mod info;
 pub mod journal;
 pub mod keys;
 pub mod messages;
+pub mod multicast;
 pub mod p4info;
 pub mod profiles;
 pub mod records;

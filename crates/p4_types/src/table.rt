@@ -4,6 +4,7 @@ ghost use Rattle.std.specs.Prelude.{◌≡◌, IfOk};
 
 use crate::keys::{Arguments, Tests};
 use crate::messages::DigestEntry;
+use crate::multicast::MulticastChange;
 use crate::profiles::ProfileChange;
 use crate::shared::Shared;
 use crate::weights::{Weighted, WeightedList};
@@ -164,6 +165,7 @@ pub enum Change {
     },
     Profile(ProfileChange),
     Digest(DigestChange),
+    Multicast(MulticastChange),
 }
 
 /// What is left to be drawn, and what is drawn next: rows, slots of counters, stamps of when entries were hit, and sequence

@@ -13,13 +13,15 @@ use Rattle.bm_pipeline.specs.declared.tables.Table.{Table}
 use Rattle.bm_pipeline.specs.Places.{node_count}
 use Rattle.p4_types.specs.declared.info.Counter.{Counter}
 use Rattle.p4_types.specs.declared.info.Info.{Info}
+use Rattle.p4_types.specs.declared.messages.Replica.{Replica}
 use Rattle.p4_types.specs.declared.records.DropReason.TheVariants as reasons
+use Rattle.p4_types.specs.declared.records.HitMark.{HitMark}
 use Rattle.p4_types.specs.declared.records.Sample.{Sample}
 use Rattle.p4_types.specs.declared.records.HitMark.TheVariants as marks
 use Rattle.p4_types.specs.declared.table.Entry.{Entry}
 use Rattle.packet_spec.specs.Choosing.{found, found_by, key_of, acts}
 use Rattle.packet_spec.specs.Laws.{IsThere, HitsAreThere}
-use Rattle.packet_spec.specs.Meaning.{Verdict, dropped, behind_parser, meaning, bytes_in, packet_in_fields, to_controller, sent_to, sample_of, egress_spec, walked, written, left, before_egress, chosen_port}
+use Rattle.packet_spec.specs.Meaning.{Verdict, dropped, behind_parser, meaning, bytes_in, packet_in_fields, to_controller, sent_to, sample_of, egress_spec, walked, written, left, before_egress, through_egress, chosen_port, copy_store, copies_left, mcast_grp, replicas_of, behind_sample}
 use Rattle.packet_spec.specs.Walking.{Walk, cells_before, cell_in, cell_hit, entry_hit, ran, starting, table_done, conditional_done, node_done, walk_from}
 use Rattle.plane_spec.specs.Entries.{best, hits, beats}
 use Rattle.plane_spec.specs.Planes.{Plane}
@@ -125,18 +127,33 @@ left_there plane cpu port rest sample walk there =
     (either plane (dropped reasons.TooShortForController sample walk.hits) _ (ltb (length bytes) (bytes_in (packet_in_fields info))) there there)
     there))
 
+through_there : (plane : Plane) (cpu : ℕ) (rest : List ℕ) (sample : Option Sample) (store : Contents) (hits : List HitMark) → All (IsThere plane) hits → All (IsThere plane) (through_egress plane cpu rest sample store hits).hits
+through_there plane cpu rest sample store hits there =
+    let start : Walk = record { store = before_egress plane store; learned = None; hits = hits } in
+    left_there plane cpu (egress_spec plane store) rest sample (walked plane plane.config.program.egress (before_egress plane store) hits)
+    (walk_there plane (suc (node_count plane.config.program)) plane.config.program.egress start there)
+
 chosen_there : (plane : Plane) (cpu : ℕ) (rest : List ℕ) (sample : Option Sample) (walk : Walk) → All (IsThere plane) walk.hits → All (IsThere plane) (chosen_port plane cpu rest sample walk).hits
 chosen_there plane cpu rest sample walk there =
-    let start : Walk = record { store = before_egress plane walk.store; learned = None; hits = walk.hits } in
-    let egress : Walk = walked plane plane.config.program.egress (before_egress plane walk.store) walk.hits in
-    either plane (dropped reasons.ByPipeline sample walk.hits) (left plane cpu (egress_spec plane walk.store) rest sample egress) (egress_spec plane walk.store == drop_port) there
-    (left_there plane cpu (egress_spec plane walk.store) rest sample egress (walk_there plane (suc (node_count plane.config.program)) plane.config.program.egress start there))
+    either plane (dropped reasons.ByPipeline sample walk.hits) (through_egress plane cpu rest sample walk.store walk.hits) (egress_spec plane walk.store == drop_port) there
+    (through_there plane cpu rest sample walk.store walk.hits there)
+
+copies_there : (plane : Plane) (cpu : ℕ) (rest : List ℕ) (sample : Option Sample) (store : Contents) (replicas : List Replica) (hits : List HitMark) → All (IsThere plane) hits
+    → All (IsThere plane) (copies_left plane cpu rest sample store replicas hits).hits
+copies_there plane cpu rest sample store [] hits there = there
+copies_there plane cpu rest sample store (replica ∷ replicas) hits there =
+    copies_there plane cpu rest sample store replicas _ (through_there plane cpu rest sample (copy_store plane store replica) hits there)
+
+sample_there : (plane : Plane) (cpu : ℕ) (rest : List ℕ) (sample : Option Sample) (walk : Walk) → All (IsThere plane) walk.hits → All (IsThere plane) (behind_sample plane cpu rest sample walk).hits
+sample_there plane cpu rest sample walk there =
+    either plane (chosen_port plane cpu rest sample walk) (copies_left plane cpu rest sample walk.store (replicas_of plane walk.store) walk.hits) (mcast_grp plane walk.store == 0)
+    (chosen_there plane cpu rest sample walk there) (copies_there plane cpu rest sample walk.store (replicas_of plane walk.store) walk.hits there)
 
 parsed_there : (plane : Plane) (cpu : ℕ) (parsed : Parsed) → All (IsThere plane) (behind_parser plane cpu parsed).hits
 parsed_there plane cpu parsed =
     let start : Walk = record { store = sums_verified plane.config.program parsed.store; learned = None; hits = [] } in
     let walk : Walk = walked plane plane.config.program.ingress (sums_verified plane.config.program parsed.store) [] in
-    chosen_there plane cpu parsed.rest (sample_of plane walk.store walk.learned) walk
+    sample_there plane cpu parsed.rest (sample_of plane walk.store walk.learned) walk
     (walk_there plane (suc (node_count plane.config.program)) plane.config.program.ingress start (All-nil (IsThere plane)))
 
 pub hits_are_there : HitsAreThere

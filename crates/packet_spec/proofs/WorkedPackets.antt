@@ -1,6 +1,6 @@
 -- The worked packets, computed.
 use Rattle.std.proofs.Common.{refl}
-use Rattle.packet_spec.specs.Worked.{RouterForwards, RouterDrops, RouterWraps, LabLearns, LabTakesFirst, GroupChoosesFirst, GroupChoosesSecond, SetChoosesSecond, ShortFrameLeaves, ControllerIsTold, ControllerHeaderTooShort, LongerLeaves, LongestLeaves, TooLongIsDropped}
+use Rattle.packet_spec.specs.Worked.{RouterForwards, RouterDrops, RouterWraps, LabLearns, LabTakesFirst, GroupChoosesFirst, GroupChoosesSecond, SetChoosesSecond, ShortFrameLeaves, ControllerIsTold, ControllerHeaderTooShort, LongerLeaves, LongestLeaves, TooLongIsDropped, FloodCopies, AbsentGroupDrops}
 use Rattle.packet_spec.specs.Meaning.{meaning}
 use Rattle.packet_spec.specs.Choosing.{found, acts, fnv, selector_bytes}
 use Rattle.packet_spec.specs.Programs.{router, lab}
@@ -68,3 +68,11 @@ longest_leaves = refl
 pub too_long_is_dropped : TooLongIsDropped
 unfolding meaning found acts fnv selector_bytes router lab bridge_program bridge_info best action_done csum16 sums_verified sums_updated deparsed parse taken bits num canon
 too_long_is_dropped = refl
+
+pub flood_copies : FloodCopies
+unfolding meaning found acts fnv selector_bytes router lab bridge_program bridge_info best action_done csum16 sums_verified sums_updated deparsed parse taken bits num canon
+flood_copies = refl
+
+pub absent_group_drops : AbsentGroupDrops
+unfolding meaning found acts fnv selector_bytes router lab bridge_program bridge_info best action_done csum16 sums_verified sums_updated deparsed parse taken bits num canon
+absent_group_drops = refl

@@ -1,8 +1,9 @@
 -- What becomes of one packet in a plane (P4-16, "Architecture description"; BMv2, "simple_switch"; P4Runtime 1.3.0, "Packet I/O", "Digests").
-use Rattle.std.specs.Prelude.{ℕ, suc, ◌/◌, ◌%◌, ◌^◌, ◌==◌, nat_lt, if◌then◌else◌, Bool, List, [], ◌∷◌, codes, drop, find, length, map, slice_get, sum_by, Option, Some, None}
+use Rattle.std.specs.Prelude.{ℕ, suc, ◌/◌, ◌%◌, ◌^◌, ◌==◌, nat_lt, if◌then◌else◌, Bool, List, [], ◌∷◌, ◌++◌, codes, drop, find, length, map, slice_get, sum_by, Option, Some, None}
 use Rattle.std.specs.Str.{bytes_eq}
 use Rattle.std.specs.List.{list_any}
-use Rattle.bm_expr.specs.Store.{Contents, field_read}
+use Rattle.bm_expr.specs.declared.store.FieldPlace.{FieldPlace}
+use Rattle.bm_expr.specs.Store.{Contents, assigned, field_read}
 use Rattle.bm_pipeline.specs.declared.actions.LearnList.{LearnList}
 use Rattle.bm_pipeline.specs.declared.tables.Node.{Node}
 use Rattle.bm_pipeline.specs.Places.{node_count}
@@ -14,6 +15,7 @@ use Rattle.p4_types.specs.declared.info.Info.{Info}
 use Rattle.p4_types.specs.declared.messages.P4Data.TheVariants as contents
 use Rattle.p4_types.specs.declared.messages.PacketIn.{PacketIn}
 use Rattle.p4_types.specs.declared.messages.PacketMetadata.{PacketMetadata}
+use Rattle.p4_types.specs.declared.messages.Replica.{Replica}
 use Rattle.p4_types.specs.declared.records.DropReason.{DropReason}
 use Rattle.p4_types.specs.declared.records.DropReason.TheVariants as reasons
 use Rattle.p4_types.specs.declared.records.Fate.{Fate}
@@ -22,6 +24,7 @@ use Rattle.p4_types.specs.declared.records.HitMark.{HitMark}
 use Rattle.p4_types.specs.declared.records.Output.{Output}
 use Rattle.p4_types.specs.declared.records.Sample.{Sample}
 use Rattle.packet_spec.specs.Walking.{Walk, walk_from}
+use Rattle.plane_spec.specs.Multicast.{multicast_of, replicas_in}
 use Rattle.plane_spec.specs.Planes.{Plane}
 use Rattle.program_spec.specs.Actions.{drop_port}
 use Rattle.program_spec.specs.Checksums.{sums_verified, sums_updated}
@@ -131,15 +134,67 @@ left plane cpu port rest sample walk =
 abbrev pub before_egress : Plane → Contents → Contents
 before_egress plane store = assigned_if plane.config.program.standard_metadata.egress_port (egress_spec plane store) store
 
--- a packet behind ingress, with its sample; one that ingress drops is dropped
+-- a packet that goes through egress, with the store that it begins with and what was hit before
+abbrev pub through_egress : Plane → ℕ → List ℕ → Option Sample → Contents → List HitMark → Verdict
+through_egress plane cpu rest sample store hits =
+    left plane cpu (egress_spec plane store) rest sample (walked plane plane.config.program.egress (before_egress plane store) hits)
+
+-- a packet behind ingress that goes to one port; one that ingress drops is dropped
 abbrev pub chosen_port : Plane → ℕ → List ℕ → Option Sample → Walk → Verdict
 chosen_port plane cpu rest sample walk =
     if egress_spec plane walk.store == drop_port then dropped reasons.ByPipeline sample walk.hits
-    else left plane cpu (egress_spec plane walk.store) rest sample (walked plane plane.config.program.egress (before_egress plane walk.store) walk.hits)
+    else through_egress plane cpu rest sample walk.store walk.hits
+
+-- the store of a copy, of what ingress left: `egress_spec` is the replica's port, and `egress_rid` its instance
+abbrev pub copy_store : Plane → Contents → Replica → Contents
+copy_store plane store replica =
+    assigned_if plane.config.program.standard_metadata.egress_rid replica.instance
+    (assigned store plane.config.program.standard_metadata.egress_spec replica.egress_port)
+
+-- what becomes of copies together: they were sent where one of them was; else their fate is the first one's
+abbrev pub fate_with : Fate → Fate → Fate
+fate_with first fates.Sent = fates.Sent
+fate_with first (fates.Dropped reason) = first
+
+-- a copy, and those behind it, whose hits begin with its own
+abbrev pub joined : Verdict → Verdict → Verdict
+joined copy others = record {
+  fate = fate_with copy.fate others.fate;
+  outputs = copy.outputs ++ others.outputs;
+  packet_ins = copy.packet_ins ++ others.packet_ins;
+  sample = others.sample;
+  hits = others.hits;
+}
+
+-- a packet behind ingress that is copied: each copy begins with the store as ingress left it; where there are none it is dropped
+abbrev pub copies_left : Plane → ℕ → List ℕ → Option Sample → Contents → List Replica → List HitMark → Verdict
+copies_left plane cpu rest sample store [] hits = dropped reasons.ByPipeline sample hits
+copies_left plane cpu rest sample store (replica ∷ replicas) hits =
+    let copy : Verdict = through_egress plane cpu rest sample (copy_store plane store replica) hits in
+    joined copy (copies_left plane cpu rest sample store replicas copy.hits)
+
+-- the number of a field that the program may lack, and then 0
+abbrev pub field_if : Option FieldPlace → Contents → ℕ
+field_if None store = 0
+field_if (Some place) store = field_read store place
+
+-- `mcast_grp`: the id of the multicast group that was chosen, and 0 where none was
+abbrev pub mcast_grp : Plane → Contents → ℕ
+mcast_grp plane store = field_if plane.config.program.standard_metadata.mcast_grp store
+
+-- the replicas of the group that was chosen; one that is absent has none
+abbrev pub replicas_of : Plane → Contents → List Replica
+replicas_of plane store = replicas_in (multicast_of (mcast_grp plane store) plane.multicast)
+
+-- a packet behind ingress, with its sample: it is copied where a multicast group was chosen, whatever its port is; else it goes to its port
+abbrev pub behind_sample : Plane → ℕ → List ℕ → Option Sample → Walk → Verdict
+behind_sample plane cpu rest sample walk =
+    if mcast_grp plane walk.store == 0 then chosen_port plane cpu rest sample walk
+    else copies_left plane cpu rest sample walk.store (replicas_of plane walk.store) walk.hits
 
 -- a packet behind ingress: the list that was named last gives a sample of the fields as they are
 abbrev pub behind_ingress : Plane → ℕ → List ℕ → Walk → Verdict
-behind_ingress plane cpu rest walk = chosen_port plane cpu rest (sample_of plane walk.store walk.learned) walk
+behind_ingress plane cpu rest walk = behind_sample plane cpu rest (sample_of plane walk.store walk.learned) walk
 
 -- a packet behind the parser: checksums are verified, and ingress is walked
 abbrev pub behind_parser : Plane → ℕ → Parsed → Verdict

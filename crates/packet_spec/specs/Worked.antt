@@ -1,5 +1,5 @@
 -- Packets that were followed by hand: what leaves, and what was hit (this project's examples).
-use Rattle.std.specs.Prelude.{◌≡◌, ℕ, ◌+◌, pos, List, [], ◌∷◌, codes, map, length, replicate, Some, None}
+use Rattle.std.specs.Prelude.{◌≡◌, ℕ, ◌+◌, pos, true, List, [], ◌∷◌, codes, map, length, replicate, Some, None}
 use Rattle.bm_expr.specs.Trees.{Datum}
 use Rattle.bm_pipeline.specs.declared.actions.Primitive.TheVariants as primitives
 use Rattle.bm_pipeline.specs.declared.program.Program.{Program}
@@ -7,6 +7,7 @@ use Rattle.p4_types.specs.declared.info.ControllerHeader.{ControllerHeader}
 use Rattle.p4_types.specs.declared.keys.FieldTest.{FieldTest}
 use Rattle.p4_types.specs.declared.keys.FieldTest.TheVariants as tests
 use Rattle.p4_types.specs.declared.messages.P4Data.TheVariants as contents
+use Rattle.p4_types.specs.declared.multicast.MulticastGroup.{MulticastGroup}
 use Rattle.p4_types.specs.declared.records.DropReason.TheVariants as reasons
 use Rattle.p4_types.specs.declared.records.Fate.TheVariants as fates
 use Rattle.p4_types.specs.declared.records.HitMark.TheVariants as marks
@@ -15,8 +16,8 @@ use Rattle.p4_types.specs.declared.table.Entry.{Entry}
 use Rattle.p4_types.specs.declared.table.EntryAction.{EntryAction}
 use Rattle.p4_types.specs.declared.table.EntryAction.TheVariants as entry_actions
 use Rattle.packet_spec.specs.Meaning.{Verdict, dropped, meaning}
-use Rattle.packet_spec.specs.Programs.{configured, no_objects, ecmp_info, header_at, router, lab}
-use Rattle.plane_spec.specs.Bridge.{bridge_config, bridge_info, bridge_program, bridge_table, forward_action, metadata_header, eth_header, metadata_field, named}
+use Rattle.packet_spec.specs.Programs.{configured, no_objects, ecmp_info, header_at, field, router, lab}
+use Rattle.plane_spec.specs.Bridge.{drop_body, bridge_config, bridge_info, bridge_program, bridge_table, forward_action, metadata_header, eth_header, metadata_field, named}
 use Rattle.plane_spec.specs.Config.{Config}
 use Rattle.plane_spec.specs.Planes.{Plane, made_plane}
 
@@ -184,3 +185,42 @@ LongestLeaves = sizes (meaning (Some (wide_plane (widening 65 8200 (8 ∷ replic
 -- one byte more is too long
 abbrev pub TooLongIsDropped : Type 0
 TooLongIsDropped = meaning (Some (wide_plane (widening 65 8200 (8 ∷ replicate 64 128)))) cpu 1 (replicate 9216 0) ≡ dropped reasons.TooLong None (marks.Entry bridge_table 1 None ∷ [])
+
+-- ---- copies
+
+-- the bridge with `mcast_grp` and `egress_rid`, and with an action that assigns the first in the place of `forward`
+abbrev pub flooding : Program
+flooding = record bridge_program {
+  headers = metadata_header ∷ eth_header ∷ (record (header_at 2 9 2 32 (16 ∷ 16 ∷ [])) { metadata = true }) ∷ [];
+  fields = 11;
+  standard_metadata = record bridge_program.standard_metadata { mcast_grp = Some (field 9 2 16); egress_rid = Some (field 10 2 16) };
+  actions = (record { runtime_data = 16 ∷ []; primitives = primitives.Assign (field 9 2 16) (Datum 0) ∷ [] }) ∷ drop_body ∷ [];
+}
+
+-- a plane of it, in which all goes to group 7, with these groups
+abbrev pub flood_plane : List MulticastGroup → Plane
+flood_plane groups = record (bridge_plane (record bridge_config { program = flooding }) 0 7) { multicast = groups }
+
+-- group 7: ports 1, 3 and the CPU port
+abbrev pub group_seven : MulticastGroup
+group_seven = record { id = 7; replicas = (record { egress_port = 1; instance = 0 }) ∷ (record { egress_port = 3; instance = 1 }) ∷ (record { egress_port = 255; instance = 0 }) ∷ [] }
+
+-- a frame to the address 0
+abbrev pub frame : List ℕ
+frame = 0 ∷ 0 ∷ 0 ∷ 0 ∷ 0 ∷ 0 ∷ 0 ∷ 0 ∷ 0 ∷ 0 ∷ 0 ∷ 1 ∷ 8 ∷ 0 ∷ []
+
+-- it leaves at ports 1 and 3, and goes to a controller
+abbrev pub FloodCopies : Type 0
+FloodCopies =
+    meaning (Some (flood_plane (group_seven ∷ []))) cpu 1 frame
+    ≡ record {
+      fate = fates.Sent;
+      outputs = (record { port = 1; bytes = frame }) ∷ (record { port = 3; bytes = frame }) ∷ [];
+      packet_ins = (record { payload = frame; metadata = [] }) ∷ [];
+      sample = None;
+      hits = marks.Entry bridge_table 1 None ∷ [];
+    }
+
+-- without the group it is dropped
+abbrev pub AbsentGroupDrops : Type 0
+AbsentGroupDrops = meaning (Some (flood_plane [])) cpu 1 frame ≡ dropped reasons.ByPipeline None (marks.Entry bridge_table 1 None ∷ [])

@@ -1,6 +1,6 @@
 //! Laws about packets in planes. Each function's contract is the law; its body does nothing.
 ghost use Rattle.packet_spec.specs.Laws.{WalkEnds, WalkIsOne, NoNodeTwice, DroppedSendsNothing, LeavesWithinLimit, HitsAreThere};
-ghost use Rattle.packet_spec.specs.Worked.{RouterForwards, RouterDrops, RouterWraps, LabLearns, LabTakesFirst, GroupChoosesFirst, GroupChoosesSecond, SetChoosesSecond, ShortFrameLeaves, ControllerIsTold, ControllerHeaderTooShort, LongerLeaves, LongestLeaves, TooLongIsDropped};
+ghost use Rattle.packet_spec.specs.Worked.{RouterForwards, RouterDrops, RouterWraps, LabLearns, LabTakesFirst, GroupChoosesFirst, GroupChoosesSecond, SetChoosesSecond, ShortFrameLeaves, ControllerIsTold, ControllerHeaderTooShort, LongerLeaves, LongestLeaves, TooLongIsDropped, FloodCopies, AbsentGroupDrops};
 
 /// A walk through the tables of a valid program ends, in one way alone, and comes to no node twice.
 pub fn walks_end_in_one_way()
@@ -36,4 +36,6 @@ pub fn worked_packets()
     ensures longer_leaves { LongerLeaves }
     ensures longest_leaves { LongestLeaves }
     ensures too_long_is_dropped { TooLongIsDropped }
+    ensures flood_copies { FloodCopies }
+    ensures absent_group_drops { AbsentGroupDrops }
 {}

@@ -1,3 +1,4 @@
+pub mod Copies
 pub mod Hits
 pub mod Headers
 pub mod Scratches

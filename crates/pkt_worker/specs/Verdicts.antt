@@ -51,9 +51,13 @@ verdict_by ending bytes payload metadata sample hits = record {
   hits = hits;
 }
 
--- how many hits there is room for: an entry and 64 cells in each of 128 tables, in two walks
+-- how many hits there is room for: an entry and 64 cells in each of 128 tables, in ingress and in the egress of 32 copies
 abbrev pub hits_room : ℕ
-hits_room = 16640
+hits_room = 274560
+
+-- how many bytes there is room for in what leaves
+abbrev pub bytes_room : ℕ
+bytes_room = 10240
 
 -- how many numbers there is room for in a header or a sample
 abbrev pub numbers_room : ℕ

@@ -15,3 +15,13 @@ pub(crate) struct Datum {
     pub id: u32,
     pub number: u128,
 }
+
+/// What leaves, or goes to a controller: how it ends, all bytes, where those begin that go to a controller, and the numbers of
+/// the header before them.
+#[derive(Clone, Copy)]
+pub(crate) struct Left<'a> {
+    pub ending: Ending,
+    pub bytes: &'a [u8],
+    pub payload: usize,
+    pub metadata: &'a [Datum],
+}

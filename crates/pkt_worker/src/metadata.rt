@@ -46,6 +46,7 @@ fn read_metadata(fields: &[HeaderField], bytes: &[u8], metadata: &mut Vec<Datum>
     requires long { sum_by (λ field. field.bitwidth) fields.now ≤ 8 * length bytes.now }
     requires room { numbers_room ≤ vec_capacity metadata.old }
     ensures read { map carried metadata.new.items ≡ spec.metadata_of fields.now (runs (spec.widths_of fields.now) (bits bytes.now)) }
+    ensures few { length metadata.new.items ≤ numbers_room }
     ensures room { numbers_room ≤ vec_capacity metadata.new }
 {
     metadata.clear();
@@ -73,9 +74,11 @@ pub(crate) fn to_controller(
 ) -> Ending
     requires header { IsHeaderOf fields.now }
     requires payload { payload.old ≤ length bytes.now }
+    requires few { length metadata.old.items ≤ numbers_room }
     requires room { numbers_room ≤ vec_capacity metadata.old }
     ensures told { (sample : Option Sample) (hits : List HitMark) → verdict_by result bytes.now payload.new metadata.new.items sample hits ≡ spec.to_controller fields.now sample hits bytes.now }
     ensures payload { payload.new ≤ length bytes.now }
+    ensures few { length metadata.new.items ≤ numbers_room }
     ensures room { numbers_room ≤ vec_capacity metadata.new }
 {
     let size = bits_in(fields) / 8;

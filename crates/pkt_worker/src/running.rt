@@ -1,5 +1,5 @@
 //! One packet through a plane.
-ghost use Rattle.std.specs.Prelude.{◌≡◌, ℕ, ◌≤◌, [], drop, length, Some, None, Option, IfSome, IfOk};
+ghost use Rattle.std.specs.Prelude.{◌≡◌, ℕ, ◌+◌, ◌*◌, ◌≤◌, [], drop, length, Some, None, Option, IfSome, IfOk};
 ghost use Rattle.std.specs.Option.{option_map};
 ghost use Rattle.canon_bytes.specs.Bits.{bits};
 ghost use Rattle.bm_expr.specs.Store.{Contents, cleared};
@@ -10,9 +10,13 @@ ghost use Rattle.program_spec.specs.Parsing.{Parsed};
 ghost use Rattle.program_spec.specs.Stores.{entering};
 ghost use Rattle.pkt_codec.specs.Room.{HasRoom, AreAsLarge, IsOfSize};
 ghost use Rattle.pkt_walk.specs.Turns.{walk_at};
+ghost use Rattle.plane_spec.specs.Multicast.{multicast_of, replicas_in};
+ghost use Rattle.pkt_worker.specs.Copies.{no_copies, with_last, copies_room};
 ghost use Rattle.pkt_worker.specs.Slots.{HasSlots};
-ghost use Rattle.pkt_worker.specs.Verdicts.{walk_room};
+ghost use Rattle.pkt_worker.specs.Verdicts.{hits_room, walk_room};
 
+use crate::copies::Copies;
+use crate::single::Single;
 use crate::verdict::Verdict;
 use crate::walk::walk;
 use act_exec::Marks;
@@ -21,6 +25,7 @@ use bm_pipeline::Pipeline;
 use bm_pipeline::actions::LearnList;
 use bm_pipeline::tables::Node;
 use list_types::NoMemory;
+use p4_types::messages::Replica;
 use p4_types::records::DropReason;
 use pkt_codec::{enter, parse, update_sums, verify_sums};
 use plane_state::Plane;
@@ -34,6 +39,8 @@ const DROP_PORT: u16 = 511;
 #[derive(Drop)]
 pub struct Scratch {
     store: Store,
+    /// The store of a copy; that of the packet stays as ingress left it.
+    copy: Store,
     marks: Marks,
 }
 
@@ -42,16 +49,17 @@ impl Model for Scratch {
 
     ghost Value = { Kept };
 
-    ghost view = { λ scratch. record { store = scratch.store; marks = scratch.marks } };
+    ghost view = { λ scratch. record { store = scratch.store; copy = scratch.copy; marks = scratch.marks } };
 }
 
 impl Scratch {
     /// Takes all the memory that packets need. Its store has no field and no header yet, and nothing is marked.
     pub fn open(alloc: Global) -> Result<Scratch, NoMemory>
-        ensures { IfOk result (λ scratch. scratch ≡ record { store = cleared 0 0; marks = record { counted = []; learned = None } }) }
+        ensures { IfOk result (λ scratch. scratch ≡ record { store = cleared 0 0; copy = cleared 0 0; marks = record { counted = []; learned = None } }) }
     {
         Ok(Scratch {
             store: Store::open(alloc, 0, 0)?,
+            copy: Store::open(alloc, 0, 0)?,
             marks: Marks::open(alloc)?,
         })
     }
@@ -83,9 +91,10 @@ fn egress_of(plane: &Plane) -> Option<Node>
 }
 
 // A packet behind egress, whose port was chosen before: one that egress drops is dropped, another is sent.
-fn leave(plane: &Plane, cpu: u16, port: u16, rest: &[u8], store: &mut Store, out: &mut Verdict)
+fn leave(plane: &Plane, cpu: u16, port: u16, rest: &[u8], store: &mut Store, out: &mut Single)
     requires room { HasRoom plane.now.now.config.program store.old }
-    ensures { (learned : Option ℕ) → out.new ≡ spec.left plane.now.now cpu port (bits rest.now) out.old.sample (record { store = store.old; learned = learned; hits = out.old.hits }) }
+    ensures left { (learned : Option ℕ) → out.new ≡ spec.left plane.now.now cpu port (bits rest.now) out.old.sample (record { store = store.old; learned = learned; hits = out.old.hits }) }
+    ensures as_large { AreAsLarge store.old store.new }
 {
     if egress_spec(plane, store) == DROP_PORT {
         out.drop_for(DropReason::ByPipeline);
@@ -108,29 +117,194 @@ fn enter_egress(plane: &Plane, port: u16, store: &mut Store)
     }
 }
 
-// A packet behind ingress, with its sample: one that ingress drops is dropped, another goes through egress.
+// A packet that goes through egress, to the port that was chosen before.
+fn through_egress(
+    plane: &Plane,
+    cpu: u16,
+    rest: &[u8],
+    store: &mut Store,
+    marks: &mut Marks,
+    out: &mut Single,
+)
+    requires room { HasRoom plane.now.now.config.program store.old }
+    requires slots { HasSlots plane.now.now }
+    requires hits { length out.old.hits + walk_room ≤ hits_room }
+    ensures left { out.new ≡ spec.through_egress plane.now.now cpu (bits rest.now) out.old.sample store.old out.old.hits }
+    ensures hits { length out.new.hits ≤ length out.old.hits + walk_room }
+    ensures as_large { AreAsLarge store.old store.new }
+{
+    let port = egress_spec(plane, store);
+    enter_egress(plane, port, store);
+    marks.clear();
+    walk(plane, egress_of(plane), store, marks, out);
+    leave(plane, cpu, port, rest, store, out);
+}
+
+// A packet behind ingress that goes to one port: one that ingress drops is dropped.
 fn choose_port(
     plane: &Plane,
     cpu: u16,
     rest: &[u8],
     store: &mut Store,
     marks: &mut Marks,
-    out: &mut Verdict,
+    out: &mut Single,
 )
     requires room { HasRoom plane.now.now.config.program store.old }
     requires slots { HasSlots plane.now.now }
     requires hits { length out.old.hits ≤ walk_room }
     ensures { out.new ≡ spec.chosen_port plane.now.now cpu (bits rest.now) out.old.sample (walk_at store.old marks.old out.old.hits) }
 {
-    let port = egress_spec(plane, store);
-    if port == DROP_PORT {
+    if egress_spec(plane, store) == DROP_PORT {
         out.drop_for(DropReason::ByPipeline);
         return;
     }
-    enter_egress(plane, port, store);
-    marks.clear();
-    walk(plane, egress_of(plane), store, marks, out);
-    leave(plane, cpu, port, rest, store, out);
+    through_egress(plane, cpu, rest, store, marks, out);
+}
+
+// Makes the store of a copy of what ingress left.
+fn copy_store(plane: &Plane, store: &Store, replica: Replica, copy: &mut Store)
+    requires size { IsOfSize plane.now.now.config.program store.now }
+    requires as_large { AreAsLarge store.now copy.old }
+    ensures copied { copy.new ≡ spec.copy_store plane.now.now store.now replica }
+    ensures as_large { AreAsLarge store.now copy.new }
+{
+    copy.copy_from(store);
+    let fields = plane.config().pipeline().program().standard_metadata;
+    copy.assign(fields.egress_spec, u128::from(replica.egress_port));
+    if let Some(place) = fields.egress_rid {
+        copy.assign(place, u128::from(replica.instance));
+    }
+}
+
+// One copy of a packet, from the store as ingress left it.
+fn leave_copy(
+    plane: &Plane,
+    cpu: u16,
+    rest: &[u8],
+    replica: Replica,
+    store: &Store,
+    copy: &mut Store,
+    marks: &mut Marks,
+    out: &mut Single,
+)
+    requires size { IsOfSize plane.now.now.config.program store.now }
+    requires as_large { AreAsLarge store.now copy.old }
+    requires slots { HasSlots plane.now.now }
+    requires hits { length out.old.hits + walk_room ≤ hits_room }
+    ensures left { out.new ≡ spec.through_egress plane.now.now cpu (bits rest.now) out.old.sample (spec.copy_store plane.now.now store.now replica) out.old.hits }
+    ensures hits { length out.new.hits ≤ length out.old.hits + walk_room }
+    ensures as_large { AreAsLarge store.now copy.new }
+{
+    copy_store(plane, store, replica, copy);
+    through_egress(plane, cpu, rest, copy, marks, out);
+}
+
+// The copies of a packet behind the first, which was made.
+fn leave_others(
+    plane: &Plane,
+    cpu: u16,
+    rest: &[u8],
+    replicas: &[Replica],
+    store: &Store,
+    copy: &mut Store,
+    marks: &mut Marks,
+    copies: &mut Copies,
+    out: &mut Single,
+)
+    requires size { IsOfSize plane.now.now.config.program store.now }
+    requires as_large { AreAsLarge store.now copy.old }
+    requires slots { HasSlots plane.now.now }
+    requires few { length replicas.now ≤ copies_room }
+    requires first { copies.old ≡ no_copies }
+    requires hits { length out.old.hits ≤ 2 * walk_room }
+    ensures { with_last copies.new out.new ≡ spec.joined out.old (spec.copies_left plane.now.now cpu (bits rest.now) out.old.sample store.now replicas.now out.old.hits) }
+{
+    for replica in replicas {
+        copies.push(out);
+        leave_copy(plane, cpu, rest, *replica, store, copy, marks, out);
+    }
+}
+
+// A packet behind ingress that is copied, once for each of these replicas.
+fn leave_copies(
+    plane: &Plane,
+    cpu: u16,
+    rest: &[u8],
+    replicas: &[Replica],
+    store: &Store,
+    copy: &mut Store,
+    marks: &mut Marks,
+    copies: &mut Copies,
+    out: &mut Single,
+)
+    requires size { IsOfSize plane.now.now.config.program store.now }
+    requires slots { HasSlots plane.now.now }
+    requires few { length replicas.now ≤ 32 }
+    requires first { copies.old ≡ no_copies }
+    requires hits { length out.old.hits ≤ walk_room }
+    ensures { with_last copies.new out.new ≡ spec.copies_left plane.now.now cpu (bits rest.now) out.old.sample store.now replicas.now out.old.hits }
+{
+    let [first, others @ ..] = replicas else {
+        out.drop_for(DropReason::ByPipeline);
+        return;
+    };
+    fit(plane.config().pipeline(), copy);
+    leave_copy(plane, cpu, rest, *first, store, copy, marks, out);
+    leave_others(plane, cpu, rest, others, store, copy, marks, copies, out);
+}
+
+// The id of the multicast group that was chosen, and 0 where none was.
+fn mcast_grp(plane: &Plane, store: &Store) -> u128
+    requires room { HasRoom plane.now.now.config.program store.now }
+    ensures { result ≡ spec.mcast_grp plane.now.now store.now }
+{
+    match plane
+        .config()
+        .pipeline()
+        .program()
+        .standard_metadata
+        .mcast_grp
+    {
+        None => 0,
+        Some(place) => store.field(place),
+    }
+}
+
+// The replicas of a multicast group; one that is absent has none.
+fn replicas_of(plane: &Plane, group: u128) -> &[Replica]
+    ensures replicas { result.now ≡ replicas_in (multicast_of group plane.now.now.multicast) }
+    ensures few { length result.now ≤ 32 }
+{
+    match plane.multicast(group) {
+        None => &[],
+        Some(group) => group.replicas.as_slice(),
+    }
+}
+
+// A packet behind ingress, with its sample: it is copied where a multicast group was chosen, else it goes to its port.
+fn behind_sample(
+    plane: &Plane,
+    cpu: u16,
+    rest: &[u8],
+    store: &mut Store,
+    copy: &mut Store,
+    marks: &mut Marks,
+    copies: &mut Copies,
+    out: &mut Single,
+)
+    requires size { IsOfSize plane.now.now.config.program store.old }
+    requires slots { HasSlots plane.now.now }
+    requires first { copies.old ≡ no_copies }
+    requires hits { length out.old.hits ≤ walk_room }
+    ensures { with_last copies.new out.new ≡ spec.behind_sample plane.now.now cpu (bits rest.now) out.old.sample (walk_at store.old marks.old out.old.hits) }
+{
+    let group = mcast_grp(plane, store);
+    if group == 0 {
+        choose_port(plane, cpu, rest, store, marks, out);
+        return;
+    }
+    let replicas = replicas_of(plane, group);
+    leave_copies(plane, cpu, rest, replicas, store, copy, marks, copies, out);
 }
 
 // Whether a digest is told of: it has an entry.
@@ -149,7 +323,7 @@ fn learn_list_at(plane: &Plane, place: Option<usize>) -> Option<&LearnList>
 }
 
 // Gives a digest a sample of the fields of its list.
-fn give_sample(plane: &Plane, digest: u32, list: &LearnList, store: &Store, out: &mut Verdict)
+fn give_sample(plane: &Plane, digest: u32, list: &LearnList, store: &Store, out: &mut Single)
     requires list { IsLearnList plane.now.now.config.program list.now }
     requires room { HasRoom plane.now.now.config.program store.now }
     ensures { out.new ≡ record out.old { sample = Some (spec.sampled digest list.now store.now) } }
@@ -159,7 +333,7 @@ fn give_sample(plane: &Plane, digest: u32, list: &LearnList, store: &Store, out:
 }
 
 // Takes the sample of the list that was named last, if its digest is told of.
-fn take_sample(plane: &Plane, learned: Option<usize>, store: &Store, out: &mut Verdict)
+fn take_sample(plane: &Plane, learned: Option<usize>, store: &Store, out: &mut Single)
     requires room { HasRoom plane.now.now.config.program store.now }
     requires none { out.old.sample ≡ None }
     ensures { out.new ≡ record out.old { sample = spec.sample_of plane.now.now store.now learned } }
@@ -181,17 +355,20 @@ fn behind_ingress(
     cpu: u16,
     rest: &[u8],
     store: &mut Store,
+    copy: &mut Store,
     marks: &mut Marks,
-    out: &mut Verdict,
+    copies: &mut Copies,
+    out: &mut Single,
 )
-    requires room { HasRoom plane.now.now.config.program store.old }
+    requires size { IsOfSize plane.now.now.config.program store.old }
     requires slots { HasSlots plane.now.now }
+    requires first { copies.old ≡ no_copies }
     requires hits { length out.old.hits ≤ walk_room }
     requires none { out.old.sample ≡ None }
-    ensures { out.new ≡ spec.behind_ingress plane.now.now cpu (bits rest.now) (walk_at store.old marks.old out.old.hits) }
+    ensures { with_last copies.new out.new ≡ spec.behind_ingress plane.now.now cpu (bits rest.now) (walk_at store.old marks.old out.old.hits) }
 {
     take_sample(plane, marks.learned(), store, out);
-    choose_port(plane, cpu, rest, store, marks, out);
+    behind_sample(plane, cpu, rest, store, copy, marks, copies, out);
 }
 
 // A packet behind the parser: checksums are verified, and ingress is walked.
@@ -200,19 +377,22 @@ fn behind_parser(
     cpu: u16,
     rest: &[u8],
     store: &mut Store,
+    copy: &mut Store,
     marks: &mut Marks,
-    out: &mut Verdict,
+    copies: &mut Copies,
+    out: &mut Single,
 )
-    requires room { HasRoom plane.now.now.config.program store.old }
+    requires size { IsOfSize plane.now.now.config.program store.old }
     requires slots { HasSlots plane.now.now }
+    requires first { copies.old ≡ no_copies }
     requires hits { out.old.hits ≡ [] }
     requires none { out.old.sample ≡ None }
-    ensures { (parsed : Parsed) → store.old ≡ parsed.store → bits rest.now ≡ parsed.rest → out.new ≡ spec.behind_parser plane.now.now cpu parsed }
+    ensures { (parsed : Parsed) → store.old ≡ parsed.store → bits rest.now ≡ parsed.rest → with_last copies.new out.new ≡ spec.behind_parser plane.now.now cpu parsed }
 {
     verify_sums(plane.config().pipeline(), store);
     marks.clear();
     walk(plane, ingress_of(plane), store, marks, out);
-    behind_ingress(plane, cpu, rest, store, marks, out);
+    behind_ingress(plane, cpu, rest, store, copy, marks, copies, out);
 }
 
 // Makes a store one of just the size of a program.
@@ -228,7 +408,7 @@ fn parse_packet(pipeline: &Pipeline, port: u16, packet: &[u8], store: &mut Store
     ensures store { store.new ≡ (parsing.parse pipeline.now (bits packet.now) (entering pipeline.now port (length packet.now))).store }
     ensures rest { bits (drop result packet.now) ≡ (parsing.parse pipeline.now (bits packet.now) (entering pipeline.now port (length packet.now))).rest }
     ensures used { result ≤ length packet.now }
-    ensures room { HasRoom pipeline.now store.new }
+    ensures size { IsOfSize pipeline.now store.new }
 {
     fit(pipeline, store);
     enter(pipeline, port, packet.len(), store);
@@ -249,11 +429,22 @@ pub fn run(
     requires slots { IfSome (option_map (λ p. p.now.now) plane) HasSlots }
     ensures { out.new ≡ spec.meaning (option_map (λ p. p.now.now) plane.entry) cpu port packet.now }
 {
-    out.clear();
+    let (copies, last) = (&mut out.copies, &mut out.last);
+    copies.clear();
+    last.clear();
     let Some(plane) = plane else {
         return;
     };
-    let store = &mut scratch.store;
+    let (store, copy, marks) = (&mut scratch.store, &mut scratch.copy, &mut scratch.marks);
     let used = parse_packet(plane.config().pipeline(), port, packet, store);
-    behind_parser(plane, cpu, &packet[used..], store, &mut scratch.marks, out);
+    behind_parser(
+        plane,
+        cpu,
+        &packet[used..],
+        store,
+        copy,
+        marks,
+        copies,
+        last,
+    );
 }

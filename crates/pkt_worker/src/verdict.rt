@@ -1,111 +1,35 @@
 //! Verdicts on packets.
-ghost use Rattle.std.specs.Prelude.{◌≡◌, ◌<◌, ◌≤◌, ◌++◌, [], ◌∷◌, All, length, map, slice_get, vec_capacity, Some, None, IfOk};
+ghost use Rattle.std.specs.Prelude.{◌≡◌, ◌≤◌, [], length, slice_get, None, IfOk};
 ghost use Rattle.std.specs.Option.{option_map};
-ghost use Rattle.canon_bytes.specs.Bits.{bits};
-ghost use Rattle.canon_bytes.specs.ByteString.{canon};
-ghost use Rattle.p4_types.specs.declared.messages.P4Data.TheVariants as contents;
 ghost use Rattle.p4_types.specs.declared.records.DropReason.TheVariants as reasons;
 ghost use Rattle.packet_spec.specs.Meaning as spec;
-ghost use Rattle.pkt_codec.specs.Room.{HasRoom, IsInStore};
-ghost use Rattle.program_spec.specs.Deparsing.{deparsed};
-ghost use Rattle.program_spec.specs.Stores as stores;
-ghost use Rattle.pkt_worker.specs.Verdicts.{carried, sample_by, hits_room, numbers_room};
+ghost use Rattle.pkt_worker.specs.Verdicts.{hits_room};
 
-use crate::ending::{Datum, Ending};
-use crate::lists::add;
-use crate::metadata;
-use bm_expr::Store;
-use bm_pipeline::headers::FieldRef;
-use list_types::{ByteList, List, NoMemory};
-use p4_types::messages::{P4Data, PacketIn, PacketMetadata};
-use p4_types::records::{DropReason, Fate, HitMark, Output, Sample};
-use pkt_codec::{PacketBuf, deparse};
-use plane_state::Plane;
+use crate::copies::Copies;
+use crate::single::Single;
+use list_types::{List, NoMemory};
+use p4_types::messages::PacketIn;
+use p4_types::records::{Fate, HitMark, Output, Sample};
 use std::alloc::Global;
 use std::marker::Model;
 
-/// For how many hits there is room.
-const HITS: usize = 16_640;
-
-/// For how many numbers of a header or a sample there is room.
-const NUMBERS: usize = 128;
-
-/// What becomes of a packet, with room for every one: 10,240 bytes that leave, or go to a controller with 128 numbers, a
-/// sample of 128 numbers, and 16,640 hits.
+/// What becomes of a packet, with room for every one: 32 copies of at most 10,240 bytes that leave, or go to a controller with
+/// 128 numbers each, a sample of 128 numbers, and 274,560 hits.
 #[derive(Drop)]
 pub struct Verdict {
-    ending: Ending,
-    bytes: PacketBuf,
-    payload: usize,
-    metadata: Vec<Datum>,
-    digest: Option<u32>,
-    elements: Vec<u128>,
-    hits: Vec<HitMark>,
+    /// The copies before the last one.
+    pub(crate) copies: Copies,
+    /// The last copy, or the packet itself where it goes to one port.
+    pub(crate) last: Single,
 }
 
 impl Model for Verdict {
-    ghost use Rattle.std.specs.Prelude.{◌≤◌, length, vec_capacity};
     ghost use Rattle.packet_spec.specs.Meaning.{Verdict};
-    ghost use Rattle.pkt_worker.specs.Verdicts.{verdict_by, sample_by, hits_room, numbers_room};
+    ghost use Rattle.pkt_worker.specs.Copies.{with_last};
 
     ghost Value = { Verdict };
 
-    ghost view = { λ v. verdict_by v.ending v.bytes v.payload v.metadata.items (sample_by v.digest v.elements.items) v.hits.items };
-
-    ghost invariant = { λ v. (v.payload ≤ length v.bytes) × ((numbers_room ≤ vec_capacity v.metadata) × ((numbers_room ≤ vec_capacity v.elements) × ((hits_room ≤ vec_capacity v.hits) × (length v.hits.items ≤ hits_room)))) };
-}
-
-// The numbers of these fields.
-fn read_all(fields: &[FieldRef], store: &Store, numbers: &mut Vec<u128>)
-    requires few { length fields.now ≤ numbers_room }
-    requires in_store { All (IsInStore store.now) fields.now }
-    requires room { numbers_room ≤ vec_capacity numbers.old }
-    ensures read { numbers.new.items ≡ map (stores.read store.now) fields.now }
-    ensures room { numbers_room ≤ vec_capacity numbers.new }
-{
-    numbers.clear();
-    for field in fields {
-        add(numbers, pkt_codec::read(store, *field));
-    }
-}
-
-fn copied(alloc: Global, bytes: &[u8]) -> Result<ByteList, NoMemory>
-    ensures { IfOk result (λ list. list ≡ bytes.now) }
-{
-    Ok(List::from_vec(Vec::from_slice(alloc, bytes)?))
-}
-
-fn spelled(alloc: Global, numbers: &[u128]) -> Result<List<ByteList>, NoMemory>
-    ensures { IfOk result (λ list. list ≡ map canon numbers.now) }
-{
-    let mut list = List::new(alloc);
-    for number in numbers {
-        list.push(canon_bytes::write(alloc, *number)?)?;
-    }
-    Ok(list)
-}
-
-fn metadata_of(alloc: Global, numbers: &[Datum]) -> Result<List<PacketMetadata>, NoMemory>
-    ensures { IfOk result (λ list. list ≡ map carried numbers.now) }
-{
-    let mut list = List::new(alloc);
-    for datum in numbers {
-        let value = canon_bytes::write(alloc, datum.number)?;
-        list.push(PacketMetadata {
-            metadata_id: datum.id,
-            value,
-        })?;
-    }
-    Ok(list)
-}
-
-fn told(alloc: Global, payload: &[u8], metadata: &[Datum]) -> Result<PacketIn, NoMemory>
-    ensures { IfOk result (λ packet. packet ≡ record { payload = payload.now; metadata = map carried metadata.now }) }
-{
-    Ok(PacketIn {
-        payload: copied(alloc, payload)?,
-        metadata: metadata_of(alloc, metadata)?,
-    })
+    ghost view = { λ v. with_last v.copies v.last };
 }
 
 impl Verdict {
@@ -114,13 +38,8 @@ impl Verdict {
         ensures { IfOk result (λ verdict. verdict ≡ spec.dropped reasons.WithoutPipeline None []) }
     {
         Ok(Verdict {
-            ending: Ending::Dropped(DropReason::WithoutPipeline),
-            bytes: PacketBuf::open(alloc)?,
-            payload: 0,
-            metadata: Vec::with_capacity(alloc, NUMBERS)?,
-            digest: None,
-            elements: Vec::with_capacity(alloc, NUMBERS)?,
-            hits: Vec::with_capacity(alloc, HITS)?,
+            copies: Copies::open(alloc)?,
+            last: Single::open(alloc)?,
         })
     }
 
@@ -128,10 +47,7 @@ impl Verdict {
     pub fn fate(&self) -> Fate
         ensures { result ≡ self.now.fate }
     {
-        match self.ending {
-            Ending::Dropped(reason) => Fate::Dropped(reason),
-            Ending::ToPort(_) | Ending::ToController => Fate::Sent,
-        }
+        self.copies.fate_behind(self.last.fate())
     }
 
     /// What the packet hit, in order.
@@ -139,26 +55,25 @@ impl Verdict {
         ensures hits { result.now ≡ self.now.hits }
         ensures few { length result.now ≤ hits_room }
     {
-        self.hits.as_slice()
+        self.last.hits()
     }
 
     /// How many packets leave at ports.
     pub fn output_count(&self) -> usize
         ensures { result ≡ length self.now.outputs }
     {
-        match self.ending {
-            Ending::ToPort(_) => 1,
-            _ => 0,
-        }
+        self.copies.output_count() + self.last.output_count()
     }
 
     /// What leaves at ports, by its place: the port and the bytes.
     pub fn output(&self, place: usize) -> Option<(u16, &[u8])>
         ensures { option_map (λ output. record { port = output.0; bytes = output.1.now }) result ≡ slice_get self.now.outputs place }
     {
-        match self.ending {
-            Ending::ToPort(port) if place == 0 => Some((port, self.bytes.as_slice())),
-            _ => None,
+        let before = self.copies.output_count();
+        if place < before {
+            self.copies.output(place)
+        } else {
+            self.last.output(place - before)
         }
     }
 
@@ -167,10 +82,8 @@ impl Verdict {
         ensures { IfOk result (λ outputs. outputs ≡ self.now.outputs) }
     {
         let mut outputs = List::new(alloc);
-        if let Ending::ToPort(port) = self.ending {
-            let bytes = copied(alloc, self.bytes.as_slice())?;
-            outputs.push(Output { port, bytes })?;
-        }
+        self.copies.push_outputs(alloc, &mut outputs)?;
+        self.last.push_outputs(alloc, &mut outputs)?;
         Ok(outputs)
     }
 
@@ -178,12 +91,11 @@ impl Verdict {
     pub fn packet_in(&self, alloc: Global, place: usize) -> Result<Option<PacketIn>, NoMemory>
         ensures { IfOk result (λ packet. packet ≡ slice_get self.now.packet_ins place) }
     {
-        match self.ending {
-            Ending::ToController if place == 0 => {
-                let payload = &self.bytes.as_slice()[self.payload..];
-                Ok(Some(told(alloc, payload, self.metadata.as_slice())?))
-            }
-            _ => Ok(None),
+        let before = self.copies.packet_in_count();
+        if place < before {
+            self.copies.packet_in(alloc, place)
+        } else {
+            self.last.packet_in(alloc, place - before)
         }
     }
 
@@ -192,10 +104,8 @@ impl Verdict {
         ensures { IfOk result (λ packets. packets ≡ self.now.packet_ins) }
     {
         let mut packets = List::new(alloc);
-        if let Ending::ToController = self.ending {
-            let payload = &self.bytes.as_slice()[self.payload..];
-            packets.push(told(alloc, payload, self.metadata.as_slice())?)?;
-        }
+        self.copies.push_packet_ins(alloc, &mut packets)?;
+        self.last.push_packet_ins(alloc, &mut packets)?;
         Ok(packets)
     }
 
@@ -203,13 +113,7 @@ impl Verdict {
     pub fn sample(&self, alloc: Global) -> Result<Option<Sample>, NoMemory>
         ensures { IfOk result (λ sample. sample ≡ self.now.sample) }
     {
-        match self.digest {
-            None => Ok(None),
-            Some(digest) => Ok(Some(Sample {
-                digest,
-                content: P4Data::Struct(spelled(alloc, self.elements.as_slice())?),
-            })),
-        }
+        self.last.sample(alloc)
     }
 
     /// What the packet hit, in order.
@@ -217,63 +121,6 @@ impl Verdict {
         ensures hits { IfOk result (λ hits. hits ≡ self.now.hits) }
         ensures few { IfOk result (λ hits. length hits ≤ hits_room) }
     {
-        Ok(List::from_vec(Vec::from_slice(alloc, self.hits.as_slice())?))
-    }
-
-    /// Makes it the verdict on a packet that comes to no plane. It takes no memory, and neither does what follows.
-    pub(crate) fn clear(&mut self)
-        ensures { self.new ≡ spec.dropped reasons.WithoutPipeline None [] }
-    {
-        self.ending = Ending::Dropped(DropReason::WithoutPipeline);
-        self.digest = None;
-        self.hits.clear();
-    }
-
-    /// Adds a hit, for which there is room.
-    pub(crate) fn hit(&mut self, mark: HitMark)
-        requires room { length self.old.hits < hits_room }
-        ensures { self.new ≡ record self.old { hits = self.old.hits ++ mark ∷ [] } }
-    {
-        add(&mut self.hits, mark);
-    }
-
-    /// Gives a digest the numbers of these fields.
-    pub(crate) fn give(&mut self, digest: u32, fields: &[FieldRef], store: &Store)
-        requires few { length fields.now ≤ numbers_room }
-        requires in_store { All (IsInStore store.now) fields.now }
-        ensures { self.new ≡ record self.old { sample = Some (record { digest = digest; content = contents.Struct (map (λ field. canon (stores.read store.now field)) fields.now) }) } }
-    {
-        read_all(fields, store, &mut self.elements);
-        self.digest = Some(digest);
-    }
-
-    /// Drops the packet.
-    pub(crate) fn drop_for(&mut self, reason: DropReason)
-        ensures { self.new ≡ spec.dropped reason self.old.sample self.old.hits }
-    {
-        self.ending = Ending::Dropped(reason);
-    }
-
-    /// Sends what a store and the bytes that were not extracted make at a port; at the CPU port it goes to a controller.
-    pub(crate) fn send(&mut self, plane: &Plane, cpu: u16, port: u16, store: &Store, rest: &[u8])
-        requires room { HasRoom plane.now.now.config.program store.now }
-        ensures { self.new ≡ spec.sent_to plane.now.now.config.info cpu port self.old.sample self.old.hits (deparsed plane.now.now.config.program store.now (bits rest.now)) }
-    {
-        self.payload = 0;
-        let config = plane.config();
-        if !deparse(config.pipeline(), store, rest, &mut self.bytes) {
-            self.ending = Ending::Dropped(DropReason::TooLong);
-            return;
-        }
-        if port != cpu {
-            self.ending = Ending::ToPort(port);
-            return;
-        }
-        self.ending = metadata::to_controller(
-            metadata::packet_in_fields(config.info()),
-            self.bytes.as_slice(),
-            &mut self.payload,
-            &mut self.metadata,
-        );
+        self.last.hit_list(alloc)
     }
 }

@@ -13,7 +13,7 @@ ghost use Rattle.pkt_worker.specs.Hits.{counted_by, hits_behind};
 ghost use Rattle.pkt_worker.specs.Slots.{HasSlots};
 ghost use Rattle.pkt_worker.specs.Verdicts.{hits_room, walk_room};
 
-use crate::verdict::Verdict;
+use crate::single::Single;
 use act_exec::{Count, Marks};
 use bm_expr::Store;
 use bm_pipeline::tables::Node;
@@ -51,7 +51,7 @@ fn cell_of(plane: &Plane, count: Count) -> Option<HitMark>
 }
 
 // Adds the entry that a table took, if it took one.
-fn hit_entry(entry: Option<&Entry>, out: &mut Verdict)
+fn hit_entry(entry: Option<&Entry>, out: &mut Single)
     requires room { length out.old.hits + length (spec.entry_hit (option_map (λ e. e.now) entry)) ≤ hits_room }
     ensures { out.new ≡ record out.old { hits = out.old.hits ++ spec.entry_hit (option_map (λ e. e.now) entry.entry) } }
 {
@@ -65,7 +65,7 @@ fn hit_entry(entry: Option<&Entry>, out: &mut Verdict)
 }
 
 // Adds the cell that a count hits, if its counter has it.
-fn hit_cell(plane: &Plane, count: Count, out: &mut Verdict)
+fn hit_cell(plane: &Plane, count: Count, out: &mut Single)
     requires slots { HasSlots plane.now.now }
     requires room { length out.old.hits + length (spec.cell_hit plane.now.now (counted_by count)) ≤ hits_room }
     ensures { out.new ≡ record out.old { hits = out.old.hits ++ spec.cell_hit plane.now.now (counted_by count) } }
@@ -76,7 +76,7 @@ fn hit_cell(plane: &Plane, count: Count, out: &mut Verdict)
 }
 
 // Adds what counts hit.
-fn hit_cells(plane: &Plane, counts: &[Count], out: &mut Verdict)
+fn hit_cells(plane: &Plane, counts: &[Count], out: &mut Single)
     requires slots { HasSlots plane.now.now }
     requires room { length out.old.hits + length (flat_map (λ count. spec.cell_hit plane.now.now (counted_by count)) counts.now) ≤ hits_room }
     ensures { out.new ≡ record out.old { hits = out.old.hits ++ flat_map (λ count. spec.cell_hit plane.now.now (counted_by count)) counts.now } }
@@ -87,7 +87,7 @@ fn hit_cells(plane: &Plane, counts: &[Count], out: &mut Verdict)
 }
 
 // Adds the cells of what marks counted.
-fn hit_counts(plane: &Plane, marks: &Marks, out: &mut Verdict)
+fn hit_counts(plane: &Plane, marks: &Marks, out: &mut Single)
     requires slots { HasSlots plane.now.now }
     requires room { length out.old.hits + length (flat_map (spec.cell_hit plane.now.now) marks.now.counted) ≤ hits_room }
     ensures { out.new ≡ record out.old { hits = out.old.hits ++ flat_map (spec.cell_hit plane.now.now) marks.now.counted } }
@@ -96,7 +96,7 @@ fn hit_counts(plane: &Plane, marks: &Marks, out: &mut Verdict)
 }
 
 // Adds what a node hit: the entry that its table took, and the cells of what it counted.
-fn hit_all(plane: &Plane, entry: Option<&Entry>, marks: &Marks, out: &mut Verdict)
+fn hit_all(plane: &Plane, entry: Option<&Entry>, marks: &Marks, out: &mut Single)
     requires slots { HasSlots plane.now.now }
     requires room { length (hits_behind plane.now.now (option_map (λ e. e.now) entry) marks.now out.old.hits) ≤ hits_room }
     ensures { out.new ≡ record out.old { hits = hits_behind plane.now.now (option_map (λ e. e.now) entry.entry) marks.now out.old.hits } }
@@ -111,7 +111,7 @@ fn step(
     node: Node,
     store: &mut Store,
     marks: &mut Marks,
-    out: &mut Verdict,
+    out: &mut Single,
 ) -> Option<Node>
     requires node { IsNode plane.now.now.config.program node }
     requires room { HasRoom plane.now.now.config.program store.old }
@@ -141,7 +141,7 @@ pub(crate) fn walk(
     start: Option<Node>,
     store: &mut Store,
     marks: &mut Marks,
-    out: &mut Verdict,
+    out: &mut Single,
 )
     requires start { IfSome start (IsNode plane.now.now.config.program) }
     requires room { HasRoom plane.now.now.config.program store.old }

@@ -41,6 +41,7 @@ change_staged (changes.DeleteEntry name) device cpu rows most roles active plane
 change_staged (changes.ModifyDefault table action) device cpu rows most roles active plane next slot closed = none_drawn_staged (control_of device cpu rows most roles active (Some plane) next slot closed) _
 change_staged (changes.Profile change) device cpu rows most roles active plane next slot closed = none_drawn_staged (control_of device cpu rows most roles active (Some plane) next slot closed) _
 change_staged (changes.Digest change) device cpu rows most roles active plane next slot closed = none_drawn_staged (control_of device cpu rows most roles active (Some plane) next slot closed) _
+change_staged (changes.Multicast change) device cpu rows most roles active plane next slot closed = none_drawn_staged (control_of device cpu rows most roles active (Some plane) next slot closed) _
 
 insert_active : (o : Option Table) (device cpu rows most : ℕ) (roles : RolesState) (plane : Plane) (next slot : ℕ) (closed : Bool) (change : EntryChange)
     → let c = control_of device cpu rows most roles (Some plane) None next slot closed in
@@ -57,6 +58,7 @@ change_active (changes.DeleteEntry name) device cpu rows most roles plane next s
 change_active (changes.ModifyDefault table action) device cpu rows most roles plane next slot closed = none_drawn_active (control_of device cpu rows most roles (Some plane) None next slot closed) _
 change_active (changes.Profile change) device cpu rows most roles plane next slot closed = none_drawn_active (control_of device cpu rows most roles (Some plane) None next slot closed) _
 change_active (changes.Digest change) device cpu rows most roles plane next slot closed = none_drawn_active (control_of device cpu rows most roles (Some plane) None next slot closed) _
+change_active (changes.Multicast change) device cpu rows most roles plane next slot closed = none_drawn_active (control_of device cpu rows most roles (Some plane) None next slot closed) _
 
 -- the staged plane is changed
 pub staged_changed : (device cpu rows most : ℕ) (roles : RolesState) (active staged : Option Plane) (next slot : ℕ) (closed : Bool) (change : Change) (room : Room) (after : Option Plane) (drawn : Drawn)

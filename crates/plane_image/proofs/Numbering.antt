@@ -79,6 +79,7 @@ left_by (changes.DeleteEntry name) room plane next slot most few low numbers slo
 left_by (changes.ModifyDefault table action) room plane next slot most few low numbers slots none = nothing_drawn next slot most few low
 left_by (changes.Profile change) room plane next slot most few low numbers slots none = nothing_drawn next slot most few low
 left_by (changes.Digest change) room plane next slot most few low numbers slots none = nothing_drawn next slot most few low
+left_by (changes.Multicast change) room plane next slot most few low numbers slots none = nothing_drawn next slot most few low
 
 pub left_in : (o : Option Plane) (change : Change) (room : Room) (next slot most : ℕ) → next ≤ 2 ^ 64 - 1 → slot ≤ most → room.numbers ≡ 2 ^ 64 - 1 - next → room.slots ≡ most - slot
     → cause_in o room change ≡ None → IsLeft next slot most (drawn_in o change).numbers (drawn_in o change).slots
@@ -132,6 +133,7 @@ below_after (changes.DeleteEntry name) room plane next own h = with_none next _ 
 below_after (changes.ModifyDefault table action) room plane next own h = with_none next plane.entries h
 below_after (changes.Profile change) room plane next own h = subst (λ (p : Plane). All (Below (next + 0)) p.entries) (sym (profile_apart change plane)) (with_none next plane.entries h)
 below_after (changes.Digest change) room plane next own h = with_none next plane.entries h
+below_after (changes.Multicast change) room plane next own h = with_none next plane.entries h
 
 pub below_in_after : (o : Option Plane) (change : Change) (room : Room) (next : ℕ) → next_number room < next + 1 → BelowIn next o → BelowIn (next + (drawn_in o change).numbers) (after_in o room change)
 below_in_after None change room next own h = tt
@@ -157,6 +159,7 @@ cells_after (changes.DeleteEntry name) room plane next h = h
 cells_after (changes.ModifyDefault table action) room plane next h = h
 cells_after (changes.Profile change) room plane next h = subst (λ (p : Plane). CellsBelowIn next (Some p)) (sym (profile_apart change plane)) h
 cells_after (changes.Digest change) room plane next h = h
+cells_after (changes.Multicast change) room plane next h = h
 
 pub cells_in_after : (o : Option Plane) (change : Change) (room : Room) (next : ℕ) → CellsBelowIn next o → CellsBelowIn (next + (drawn_in o change).slots) (after_in o room change)
 cells_in_after None change room next h = tt

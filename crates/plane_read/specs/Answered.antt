@@ -7,6 +7,7 @@ use Rattle.p4_types.specs.declared.messages.ActionProfileMember.{ActionProfileMe
 use Rattle.p4_types.specs.declared.messages.CounterEntry.{CounterEntry}
 use Rattle.p4_types.specs.declared.messages.Entity.{Entity}
 use Rattle.p4_types.specs.declared.messages.Entity.TheVariants as entities
+use Rattle.p4_types.specs.declared.multicast.MulticastGroup.{MulticastGroup}
 use Rattle.p4_types.specs.declared.profiles.Group.{Group}
 use Rattle.p4_types.specs.declared.profiles.Member.{Member}
 use Rattle.p4_types.specs.declared.table.Entry.{Entry}
@@ -15,7 +16,7 @@ use Rattle.plane_spec.specs.Planes.{Plane, default_entry}
 use Rattle.switch_spec.specs.Counts.{Figures}
 use Rattle.switch_spec.specs.declared.cells.Cells.{Cells}
 use Rattle.plane_spec.specs.Entries.{slot_numbers}
-use Rattle.plane_spec.specs.Shown.{shown_entry, shown_default, shown_member, shown_group}
+use Rattle.plane_spec.specs.Shown.{shown_entry, shown_default, shown_member, shown_group, shown_multicast}
 use Rattle.switch_spec.specs.Reading.{is_asked_id, shown_direct, response_bytes, chunks}
 use Rattle.plane_read.specs.declared.selecting.View.{View}
 use Rattle.plane_read.specs.declared.selecting.View.TheVariants as views
@@ -61,6 +62,10 @@ selects_group asked group = is_asked_id asked.action_profile_id group.profile &&
 -- groups, each as it is answered
 abbrev pub answered_groups : List Group → List Entity
 answered_groups list = map entities.ActionProfileGroup (map shown_group list)
+
+-- multicast groups, each as it is answered
+abbrev pub answered_multicast : List MulticastGroup → List Entity
+answered_multicast list = map entities.PacketReplicationEngineEntry (map shown_multicast list)
 
 -- the messages for entities of which the first are written, some are gathered, and the others are to come
 abbrev pub messages_of : List (List ℕ) → List Entity → List Entity → List (List ℕ)

@@ -1,4 +1,4 @@
-//! What a Read of a plane selects, and how it is answered: table entries, members, groups, digest entries, and what counters have counted.
+//! What a Read of a plane selects, and how it is answered: table entries, members, groups, multicast groups, digest entries, and what counters have counted.
 #![tactic(auto)]
 
 mod cells;
@@ -8,6 +8,7 @@ mod digests;
 mod groups;
 mod members;
 mod messages;
+mod multicast;
 mod reading;
 mod refusals;
 mod selecting;

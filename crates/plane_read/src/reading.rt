@@ -7,7 +7,7 @@ ghost use Rattle.plane_spec.specs.Entries.{slot_numbers};
 ghost use Rattle.switch_spec.specs.Reading.{read_unless, first_of, entity_refusal, selected, selected_entries};
 
 use crate::counts::Counts;
-use crate::{cells, defaults, digests, groups, members, messages, refusals, selecting};
+use crate::{cells, defaults, digests, groups, members, messages, multicast, refusals, selecting};
 use list_types::{ByteList, List, NoMemory};
 use p4_types::code::Code;
 use p4_types::messages::{Entity, TableEntry};
@@ -52,6 +52,9 @@ fn push_selected<C: Counts>(
             members::push_members(alloc, plane, asked, answer)
         }
         Some(Entity::ActionProfileGroup(asked)) => groups::push_groups(alloc, plane, asked, answer),
+        Some(Entity::PacketReplicationEngineEntry(asked)) => {
+            multicast::push_multicast(alloc, plane, asked, answer)
+        }
         Some(Entity::DigestEntry(asked)) => digests::push_digests(plane, asked, answer),
         _ => Ok(()),
     }
@@ -75,8 +78,8 @@ fn selected<C: Counts>(
 
 /// The messages that answer a Read of these entities, each with at most 1,024 of what is selected (P4Runtime 1.3.0,
 /// "Read RPC"); or the code of the first entity asked for that is refused. Entries come by rising table id, those of
-/// one table in the order in which they were inserted; members and groups by rising profile and id, digest entries by
-/// rising id, cells of counters by rising id and index. The cells of the plane have slots that there are.
+/// one table in the order in which they were inserted; members and groups by rising profile and id, multicast groups
+/// and digest entries by rising id, cells of counters by rising id and index. The cells of the plane have slots that there are.
 pub fn read<C: Counts>(
     alloc: Global,
     plane: &Plane,

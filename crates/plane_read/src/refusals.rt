@@ -1,12 +1,12 @@
 //! Why a Read is refused.
 ghost use Rattle.std.specs.Prelude.{◌≡◌, is_some, map};
 ghost use Rattle.plane_spec.specs.Objects.{action_profile_of};
-ghost use Rattle.switch_spec.specs.Reading.{match_refusal, entry_refusal, id_refusal, direct_refusal, entity_refusal, first_of};
+ghost use Rattle.switch_spec.specs.Reading.{match_refusal, entry_refusal, id_refusal, direct_refusal, replication_refusal, entity_refusal, first_of};
 ghost use Rattle.write_rules.specs.Widths.{HasWidths};
 
 use p4_types::code::Code;
 use p4_types::info::Table;
-use p4_types::messages::{Entity, TableEntry};
+use p4_types::messages::{Entity, PacketReplicationEngineEntry, TableEntry};
 use p4info_model::P4Info;
 use write_rules::{is_canonical_match, is_malformed_match, is_too_wide};
 
@@ -71,6 +71,15 @@ fn direct_refusal(info: &P4Info, asked: &Option<TableEntry>) -> Option<Code>
     }
 }
 
+fn replication_refusal(asked: &PacketReplicationEngineEntry) -> Option<Code>
+    ensures { result ≡ replication_refusal asked.now.multicast_group_entry }
+{
+    match asked.multicast_group_entry {
+        None => Some(Code::Unimplemented),
+        Some(_) => None,
+    }
+}
+
 fn entity_refusal(info: &P4Info, entity: &Option<Entity>) -> Option<Code>
     ensures { result ≡ entity_refusal info.now entity.now }
 {
@@ -78,6 +87,7 @@ fn entity_refusal(info: &P4Info, entity: &Option<Entity>) -> Option<Code>
         Some(Entity::TableEntry(asked)) => entry_refusal(info, asked),
         Some(Entity::ActionProfileMember(asked)) => profile_refusal(info, asked.action_profile_id),
         Some(Entity::ActionProfileGroup(asked)) => profile_refusal(info, asked.action_profile_id),
+        Some(Entity::PacketReplicationEngineEntry(asked)) => replication_refusal(asked),
         Some(Entity::DigestEntry(asked)) => {
             id_refusal(asked.digest_id, info.digest(asked.digest_id).is_some())
         }

@@ -8,6 +8,7 @@ use Rattle.p4_types.specs.declared.info.Table.{Table}
 use Rattle.p4_types.specs.declared.table.Change.{Change}
 use Rattle.p4_types.specs.declared.table.Change.TheVariants as changes
 use Rattle.p4_types.specs.declared.messages.DigestEntry.{DigestEntry}
+use Rattle.p4_types.specs.declared.multicast.MulticastChange.{MulticastChange}
 use Rattle.p4_types.specs.declared.profiles.Group.{Group}
 use Rattle.p4_types.specs.declared.profiles.Member.{Member}
 use Rattle.p4_types.specs.declared.profiles.ProfileChange.{ProfileChange}
@@ -20,11 +21,13 @@ use Rattle.p4_types.specs.declared.table.EntryChange.{EntryChange}
 use Rattle.p4_types.specs.declared.table.EntryName.{EntryName}
 use Rattle.plane_spec.specs.Config.{cells_in}
 use Rattle.plane_spec.specs.Entries.{same_name, table_size, entries_of, is_counted, slots_drawn, is_full, entry_named, new_entry, inserted, modified, deleted, with_change}
+use Rattle.plane_spec.specs.Multicast.{multicast_changed}
 use Rattle.plane_spec.specs.Objects.{table_of}
 use Rattle.plane_spec.specs.Order.{StandsBefore}
 use Rattle.plane_spec.specs.Profiles.{entry_rows, group_of}
-use Rattle.plane_spec.specs.Planes.{ControlState, Plane, rows_of, rows_used, room_of, or_else, with_target, if_present, if_in_use, lacks_use, set_exceeds, insert_cause_in, modify_cause_in, profile_cause, change_cause, profile_changed, with_default, digests_changed, inserted_in, changed, changed_unless, changed_in, change_applied}
+use Rattle.plane_spec.specs.Planes.{ControlState, Plane, rows_of, rows_used, room_of, or_else, with_target, if_present, if_in_use, lacks_use, set_exceeds, insert_cause_in, modify_cause_in, profile_cause, multicast_cause_in, change_cause, profile_changed, with_default, digests_changed, inserted_in, changed, changed_unless, changed_in, change_applied}
 use Rattle.plane_spec.specs.PlaneLaws.{numbers_from, numbers_of, slots_of}
+use Rattle.plane_spec.proofs.ChangedMulticast.{may_have}
 use Rattle.plane_spec.proofs.ChangedProfiles.{MayHave, no_cause, not_broken, neither, member_more, member_other, member_fewer, group_more, group_other, group_fewer}
 use Rattle.plane_spec.proofs.Counts.{sum-inserted, sum-modified, sum-deleted}
 use Rattle.plane_spec.proofs.Drawn.{times, drawn, AreDrawn, slot_times, times-append, times-numbers, times-slots, drawn-more, times-itself, was_drawn}
@@ -81,6 +84,8 @@ fewer_stand c old entries t stand fewer room =
         sizes = λ id table is. omega (arith, t.is_kept.sizes id table is, fewer (λ e. cond (eqb e.name.table id) 1 0) (λ change e. refl));
         members = t.is_kept.members;
         groups = t.is_kept.groups;
+        multicast = t.is_kept.multicast;
+        multicast_number = t.is_kept.multicast_number;
       };
       numbers = λ x. omega (arith, times-numbers x entries, times-numbers x old.entries, fewer (λ e. cond (eqb x e.seq) 1 0) (λ change e. refl));
       slots = λ x. omega (
@@ -188,6 +193,8 @@ more_stand c old table change t found room =
         );
         members = t.is_kept.members;
         groups = t.is_kept.groups;
+        multicast = t.is_kept.multicast;
+        multicast_number = t.is_kept.multicast_number;
       };
       numbers = λ x. omega (
         arith,
@@ -244,7 +251,7 @@ modified_kept (Some former) c old change named t none =
 -- a change of the default actions or the digests
 beside_kept : (c : ControlState) (old : Plane) (changed_defaults : List DefaultAction) (told : List DigestEntry) → IsTarget c old → IsKept (with_target c (record old { changed = changed_defaults; digests = told }))
 beside_kept c old changed_defaults told t = with_same_next c old _ t record {
-  plane = record { stand = t.is_kept.stand; sizes = t.is_kept.sizes; members = t.is_kept.members; groups = t.is_kept.groups };
+  plane = record { stand = t.is_kept.stand; sizes = t.is_kept.sizes; members = t.is_kept.members; groups = t.is_kept.groups; multicast = t.is_kept.multicast; multicast_number = t.is_kept.multicast_number };
   numbers = λ x. omega arith;
   slots = λ x. omega arith;
   rows = omega (arith, t.kept.rows);
@@ -256,7 +263,7 @@ beside_kept c old changed_defaults told t = with_same_next c old _ t record {
 profiles_kept : (c : ControlState) (old : Plane) (members : List Member) (groups : List Group) → IsTarget c old → MayHave (c.rows - rows_used c) old members groups
     → IsKept (with_target c (record old { members = members; groups = groups }))
 profiles_kept c old members groups t may = with_same_next c old _ t record {
-  plane = record { stand = t.is_kept.stand; sizes = t.is_kept.sizes; members = may.members; groups = may.groups };
+  plane = record { stand = t.is_kept.stand; sizes = t.is_kept.sizes; members = may.members; groups = may.groups; multicast = t.is_kept.multicast; multicast_number = t.is_kept.multicast_number };
   numbers = λ x. omega arith;
   slots = λ x. omega arith;
   rows = omega (arith, may.rows, t.kept.rows);
@@ -273,6 +280,19 @@ profile_kept (profile_changes.ModifyGroup group) c old t none =
     profiles_kept c old old.members _ t (group_other (group_of group.profile group.id old.groups) (room_of c) old group refl t.is_kept.members t.is_kept.groups none)
 profile_kept (profile_changes.DeleteGroup profile id) c old t none = profiles_kept c old old.members _ t (group_fewer (room_of c).rows old profile id t.is_kept.members t.is_kept.groups)
 
+-- a change of the multicast groups
+multicast_kept : (change : MulticastChange) (c : ControlState) (old : Plane) → IsTarget c old → multicast_cause_in (room_of c) old.multicast change ≡ None
+    → IsKept (with_target c (record old { multicast = multicast_changed old.multicast change }))
+multicast_kept change c old t none =
+    let may = may_have change (room_of c) old.multicast t.is_kept.multicast t.is_kept.multicast_number none in with_same_next c old _ t record {
+      plane = record { stand = t.is_kept.stand; sizes = t.is_kept.sizes; members = t.is_kept.members; groups = t.is_kept.groups; multicast = may.rising; multicast_number = may.number };
+      numbers = λ x. omega arith;
+      slots = λ x. omega arith;
+      rows = omega (arith, may.rows, t.kept.rows);
+      number_limit = t.kept.number_limit;
+      slot_limit = t.kept.slot_limit;
+    }
+
 changed_kept : (change : Change) (c : ControlState) (old : Plane) → IsTarget c old → change_cause (room_of c) old change ≡ None → IsKept (changed c old change)
 changed_kept (changes.InsertEntry change) c old t none = inserted_kept _ c old change refl t none
 changed_kept (changes.ModifyEntry change) c old t none = modified_kept _ c old change refl t none
@@ -282,6 +302,7 @@ changed_kept (changes.DeleteEntry name) c old t none =
 changed_kept (changes.ModifyDefault table action) c old t none = beside_kept c old (with_default table action old.changed) old.digests t
 changed_kept (changes.Profile change) c old t none = profile_kept change c old t none
 changed_kept (changes.Digest change) c old t none = beside_kept c old old.changed (digests_changed old.digests change) t
+changed_kept (changes.Multicast change) c old t none = multicast_kept change c old t none
 
 unless_kept : (o : Option Cause) (change : Change) (c : ControlState) (old : Plane) → change_cause (room_of c) old change ≡ o → IsTarget c old → IsKept (changed_unless o c old change)
 unless_kept None change c old none t = changed_kept change c old t none

@@ -58,7 +58,7 @@ member_other room old member members groups = record {
   rows = omega (arith, length-mapped (λ (other : Member). same_id member.profile member.id other.profile other.id) member old.members);
 }
 
-fewer : {X : Type 0} (p : X → Bool) (f : X → ℕ) (xs : List X) → sum_by f (filter p xs) ≤ sum_by f xs
+pub fewer : {X : Type 0} (p : X → Bool) (f : X → ℕ) (xs : List X) → sum_by f (filter p xs) ≤ sum_by f xs
 fewer p f xs = omega (arith, sum_by-filter_both p (λ x. not (p x)) (λ x. refl) f xs)
 
 pub member_fewer : (room : ℕ) (old : Plane) (profile id : ℕ) → AreMembersRising old.members → AreGroupsRising old.groups → MayHave room old (member_deleted profile id old.members) old.groups

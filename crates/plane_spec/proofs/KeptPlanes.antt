@@ -1,14 +1,17 @@
 -- What each event keeps of the planes, by counts; and that it makes them sound.
-use Rattle.std.proofs.Common.{◌≡◌, ℕ, ◌+◌, ◌-◌, ◌^◌, ◌≤◌, ◌==◌, ◌++◌, List, Option, Some, None, IfSome, arith}
-use Rattle.std.specs.List.{count_by}
+use Rattle.std.proofs.Common.{◌≡◌, ℕ, ◌+◌, ◌-◌, ◌^◌, ◌<◌, ◌≤◌, ◌==◌, ◌++◌, ltb, true, List, length, Option, Some, None, IfSome, arith}
+use Rattle.std.specs.List.{AllPairs, count_by}
+use Rattle.std.proofs.lemmas.Bool.Decides.{nat_tests}
 use Rattle.p4_types.specs.declared.info.Table.{Table}
+use Rattle.p4_types.specs.declared.multicast.MulticastGroup.{MulticastGroup}
 use Rattle.p4_types.specs.declared.profiles.Group.{Group}
 use Rattle.p4_types.specs.declared.profiles.Member.{Member}
 use Rattle.plane_spec.specs.Config.{Config, cells_in}
 use Rattle.plane_spec.specs.Entries.{table_size}
+use Rattle.plane_spec.specs.Multicast.{multicast_limit}
 use Rattle.plane_spec.specs.Objects.{table_of}
 use Rattle.plane_spec.specs.Planes.{ControlState, Plane, rows_in, made_plane}
-use Rattle.plane_spec.specs.PlaneLaws.{numbers_of, slots_of, IsSoundPlane, IsSoundControl}
+use Rattle.plane_spec.specs.PlaneLaws.{numbers_of, slots_of, HasFewReplicas, IsSoundPlane, IsSoundControl}
 use Rattle.plane_spec.proofs.Drawn.{times, drawn, times-append, times-numbers_from, below_next, distinct}
 use Rattle.plane_spec.proofs.EntryOrder.{Stand, in_order}
 use Rattle.plane_spec.proofs.Keyed.{AreRising, rising_pairs}
@@ -25,12 +28,18 @@ AreMembersRising members = AreRising (λ m. m.profile) (λ m. m.id) members
 abbrev pub AreGroupsRising : List Group → Type 0
 AreGroupsRising groups = AreRising (λ g. g.profile) (λ g. g.id) groups
 
--- a plane's entries stand in order, and no table has more than its size; members and groups stand in order too
+-- multicast groups stand by rising id
+abbrev pub AreMulticastRising : List MulticastGroup → Type 0
+AreMulticastRising groups = AreRising (λ g. 0) (λ g. g.id) groups
+
+-- a plane's entries stand in order, and no table has more than its size; members, groups and multicast groups stand in order too
 pub record IsKeptPlane (plane : Plane) : Type 0 where
   pub stand : Stand plane.entries
   pub sizes : AreWithinSizes plane
   pub members : AreMembersRising plane.members
   pub groups : AreGroupsRising plane.groups
+  pub multicast : AreMulticastRising plane.multicast
+  pub multicast_number : length plane.multicast ≤ multicast_limit
 
 -- The same as a sound control state, of its parts: each number and each slot stands once at most in both planes, and only if it was drawn.
 pub record AreKept (active staged : Option Plane) (next next_slot limit most : ℕ) : Type 0 where
@@ -45,21 +54,30 @@ pub record AreKept (active staged : Option Plane) (next next_slot limit most : �
 abbrev pub IsKept : ControlState → Type 0
 IsKept c = AreKept c.active c.staged c.next c.next_slot c.rows c.slots
 
-sound_plane : (o : Option Plane) → IfSome o IsKeptPlane → IfSome o IsSoundPlane
-sound_plane None h = tt
-sound_plane (Some plane) h = record {
+lower : (a b : ℕ) → ltb a b ≡ true → a < b
+lower a b h = grind (arith, nat_tests)
+
+multicast_pairs : (groups : List MulticastGroup) → AreMulticastRising groups → AllPairs (λ a b. a.id < b.id) groups
+multicast_pairs groups h = λ i j d before in_range. lower _ _ (rising_pairs (λ (g : MulticastGroup). 0) (λ g. g.id) groups h i j d before in_range)
+
+sound_plane : (o : Option Plane) → IfSome o IsKeptPlane → IfSome o HasFewReplicas → IfSome o IsSoundPlane
+sound_plane None h few = tt
+sound_plane (Some plane) h few = record {
   order = in_order plane.entries h.stand;
   sizes = h.sizes;
   members = rising_pairs (λ (m : Member). m.profile) (λ m. m.id) plane.members h.members;
   groups = rising_pairs (λ (g : Group). g.profile) (λ g. g.id) plane.groups h.groups;
+  multicast = multicast_pairs plane.multicast h.multicast;
+  multicast_number = h.multicast_number;
+  replicas = few;
 }
 
-pub sound : (c : ControlState) → IsKept c → IsSoundControl c
-sound c k =
+pub sound : (c : ControlState) → IsKept c → IfSome c.active HasFewReplicas → IfSome c.staged HasFewReplicas → IsSoundControl c
+sound c k few_active few_staged =
     let numbers : (x : ℕ) → times x (numbers_of c.active ++ numbers_of c.staged) ≤ drawn c.next x = λ x. omega (arith, k.numbers x, times-append x (numbers_of c.active) (numbers_of c.staged)) in
     let slots : (x : ℕ) → times x (slots_of c.active ++ slots_of c.staged) ≤ drawn c.next_slot x = λ x. omega (arith, k.slots x, times-append x (slots_of c.active) (slots_of c.staged)) in record {
-      active = sound_plane c.active k.active_plane;
-      staged = sound_plane c.staged k.staged_plane;
+      active = sound_plane c.active k.active_plane few_active;
+      staged = sound_plane c.staged k.staged_plane few_staged;
       numbers = below_next c.next _ numbers;
       numbers_apart = distinct c.next _ numbers;
       slots = below_next c.next_slot _ slots;
@@ -77,7 +95,7 @@ pub kept_saved : (active staged : Option Plane) (next next_slot rows most : ℕ)
     → AreKept active (Some (made_plane next_slot config)) next (next_slot + cells_in config) rows most
 kept_saved active staged next next_slot rows most config k fits = record {
   active_plane = k.active_plane;
-  staged_plane = record { stand = tt; sizes = λ id table is. omega arith; members = tt; groups = tt };
+  staged_plane = record { stand = tt; sizes = λ id table is. omega arith; members = tt; groups = tt; multicast = tt; multicast_number = omega arith };
   numbers = λ x. omega (arith, k.numbers x);
   slots = λ x. omega (arith, k.slots x, times-numbers_from x (cells_in config) next_slot);
   rows = omega (arith, k.rows);

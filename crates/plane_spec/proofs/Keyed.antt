@@ -146,7 +146,7 @@ pub rising_filter : {X : Type 0} (profile id : X → ℕ) (p : X → Bool) (xs :
 rising_filter profile id p [] rising = tt
 rising_filter profile id p (x ∷ xs) rising = kept_rising profile id (p x) x (filter p xs) (All-filter _ p xs rising.0) (rising_filter profile id p xs rising.1)
 
-after_all : {X : Type 0} (profile id : X → ℕ) (x : X) (ys zs : List X) → AllByRecursion (λ y. stands_before (profile y) (id y) (profile x) (id x) ≡ true) ys
+pub after_all : {X : Type 0} (profile id : X → ℕ) (x : X) (ys zs : List X) → AllByRecursion (λ y. stands_before (profile y) (id y) (profile x) (id x) ≡ true) ys
     → AllByRecursion (λ z. stands_before (profile x) (id x) (profile z) (id z) ≡ true) zs → AreRising profile id ys → AreRising profile id zs → AreRising profile id (ys ++ x ∷ zs)
 after_all profile id x [] zs low high rising more = (high, more)
 after_all profile id x (y ∷ ys) zs low high rising more = (
@@ -154,7 +154,7 @@ after_all profile id x (y ∷ ys) zs low high rising more = (
   after_all profile id x ys zs low.1 high rising.1 more,
 )
 
-passes_filter : {X : Type 0} (p : X → Bool) (xs : List X) → AllByRecursion (λ y. p y ≡ true) (filter p xs)
+pub passes_filter : {X : Type 0} (p : X → Bool) (xs : List X) → AllByRecursion (λ y. p y ≡ true) (filter p xs)
 passes_filter p [] = tt
 passes_filter p (x ∷ xs) = passes_one p x xs (p x) refl (passes_filter p xs)
 

@@ -133,6 +133,7 @@ changed_hold P Q (changes.DeleteEntry name) c old t =
 changed_hold P Q (changes.ModifyDefault table action) c old t = drawing_nothing P Q c old _ t record { entries = t.own.entries; cells = t.own.cells }
 changed_hold P Q (changes.Profile change) c old t = drawing_nothing P Q c old _ t (profile_holds P Q change old t.own)
 changed_hold P Q (changes.Digest change) c old t = drawing_nothing P Q c old _ t record { entries = t.own.entries; cells = t.own.cells }
+changed_hold P Q (changes.Multicast change) c old t = drawing_nothing P Q c old _ t record { entries = t.own.entries; cells = t.own.cells }
 
 unless_hold : (P : ℕ → Option ℕ → Type 0) (Q : ℕ → ℕ → Type 0) (o : Option Cause) (change : Change) (c : ControlState) (old : Plane) → IsTarget P Q c old → Hold P Q (changed_unless o c old change)
 unless_hold P Q None change c old t = changed_hold P Q change c old t

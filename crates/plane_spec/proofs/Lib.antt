@@ -1,8 +1,10 @@
+pub mod ChangedMulticast
 pub mod ChangedPlanes
 pub mod ChangedProfiles
 pub mod Counts
 pub mod Drawn
 pub mod EntryOrder
+pub mod FewReplicas
 pub mod Keyed
 pub mod KeptPlanes
 pub mod Lasting

@@ -8,6 +8,7 @@ use Rattle.plane_spec.specs.Legal.{MayCommit, May, Legal}
 use Rattle.plane_spec.specs.PlaneLaws.{PlanesStaySound}
 use Rattle.plane_spec.specs.Planes.{ControlState, Plane, apply, applied, made_plane, saved, staged_committed, committed}
 use Rattle.plane_spec.proofs.ChangedPlanes.{changes_kept}
+use Rattle.plane_spec.proofs.FewReplicas.{replicas_stay_few}
 use Rattle.plane_spec.proofs.KeptPlanes.{AreKept, IsKept, sound, kept_at_first, kept_saved, kept_committed}
 
 save_kept : (c : ControlState) (config : Config) → IsKept c → c.next_slot + cells_in config ≤ c.slots → IsKept (saved c config)
@@ -48,4 +49,6 @@ first_kept true rows most =
 first_kept false rows most = kept_at_first rows most
 
 pub planes_stay_sound : PlanesStaySound
-planes_stay_sound start list legal = sound _ (events_kept list _ (first_kept start.bridge start.rows start.slots) legal)
+planes_stay_sound start list legal =
+    let few = replicas_stay_few start list legal in
+    sound _ (events_kept list _ (first_kept start.bridge start.rows start.slots) legal) few.0 few.1

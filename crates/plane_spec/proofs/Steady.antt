@@ -49,6 +49,7 @@ changed_steady (changes.DeleteEntry name) c plane = target_steady c _
 changed_steady (changes.ModifyDefault table action) c plane = target_steady c _
 changed_steady (changes.Profile change) c plane = target_steady c _
 changed_steady (changes.Digest change) c plane = target_steady c _
+changed_steady (changes.Multicast change) c plane = target_steady c _
 
 unless_steady : (o : Option Cause) (change : Change) (c : ControlState) (plane : Plane) → IsSteady c (changed_unless o c plane change)
 unless_steady None change c plane = changed_steady change c plane

@@ -68,6 +68,7 @@ standard = record {
   egress_spec = a_field 1 0 9 (omega arith) (omega arith) (omega arith);
   nine_bits = refl;
   egress_port = a_field 2 0 9 (omega arith) (omega arith) (omega arith);
+  egress_rid = tt;
   mcast_grp = tt;
   parser_error = a_field 4 0 32 (omega arith) (omega arith) (omega arith);
   checksum_error = a_field 5 0 1 (omega arith) (omega arith) (omega arith);

@@ -2,6 +2,7 @@ pub mod Bridge
 pub mod Config
 pub mod Entries
 pub mod Legal
+pub mod Multicast
 pub mod Objects
 pub mod Order
 pub mod PlaneLaws

@@ -1,11 +1,12 @@
 -- What holds of the planes in each state of a run.
-use Rattle.std.specs.Prelude.{◌≡◌, ℕ, zero, suc, ◌+◌, ◌-◌, ◌^◌, ◌<◌, ◌≤◌, ◌==◌, List, [], ◌∷◌, ◌++◌, map, count_by, All, Option, Some, None, IfSome, nat_eq, true}
+use Rattle.std.specs.Prelude.{◌≡◌, ℕ, zero, suc, ◌+◌, ◌-◌, ◌^◌, ◌<◌, ◌≤◌, ◌==◌, List, [], ◌∷◌, ◌++◌, length, map, count_by, All, Option, Some, None, IfSome, nat_eq, true}
 use Rattle.std.specs.List.{AllPairs, IsDistinct, filter_map}
 use Rattle.p4_types.specs.declared.events.Start.{Start}
 use Rattle.p4_types.specs.declared.info.Table.{Table}
 use Rattle.plane_spec.specs.Config.{Event, cells_in}
 use Rattle.plane_spec.specs.Entries.{table_size}
 use Rattle.plane_spec.specs.Legal.{Legal}
+use Rattle.plane_spec.specs.Multicast.{multicast_limit, replica_limit}
 use Rattle.plane_spec.specs.Objects.{table_of}
 use Rattle.plane_spec.specs.Order.{StandsBefore}
 use Rattle.plane_spec.specs.Profiles.{stands_before}
@@ -26,12 +27,20 @@ abbrev pub slots_of : Option Plane → List ℕ
 slots_of None = []
 slots_of (Some plane) = filter_map (λ entry. entry.slot) plane.entries ++ numbers_from (cells_in plane.config) plane.cells
 
+-- no multicast group of a plane has more replicas than it may have
+abbrev pub HasFewReplicas : Plane → Type 0
+HasFewReplicas plane = All (λ group. length group.replicas ≤ replica_limit) plane.multicast
+
 -- The entries of a plane stand in order, no two of one name, and no table has more than its size. Its members and its groups stand by rising profile and id.
+-- Its multicast groups stand by rising id, and they and their replicas keep their limits.
 pub record IsSoundPlane (plane : Plane) : Type 0 where
   pub order : AllPairs StandsBefore plane.entries
   pub members : AllPairs (λ a b. stands_before a.profile a.id b.profile b.id ≡ true) plane.members
   pub groups : AllPairs (λ a b. stands_before a.profile a.id b.profile b.id ≡ true) plane.groups
   pub sizes : (id : ℕ) (table : Table) → table_of id plane.config.info ≡ Some table → count_by (λ entry. entry.name.table == id) plane.entries ≤ table_size table
+  pub multicast : AllPairs (λ a b. a.id < b.id) plane.multicast
+  pub multicast_number : length plane.multicast ≤ multicast_limit
+  pub replicas : HasFewReplicas plane
 
 -- both planes are sound, what they drew was drawn once and is below what is drawn next, and the limits are kept
 pub record IsSoundControl (c : ControlState) : Type 0 where

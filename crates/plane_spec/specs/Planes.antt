@@ -11,6 +11,9 @@ use Rattle.p4_types.specs.declared.profiles.Member.{Member}
 use Rattle.p4_types.specs.declared.profiles.ProfileChange.{ProfileChange}
 use Rattle.p4_types.specs.declared.profiles.ProfileChange.TheVariants as profile_changes
 use Rattle.p4_types.specs.declared.profiles.Share.{Share}
+use Rattle.p4_types.specs.declared.multicast.MulticastChange.{MulticastChange}
+use Rattle.p4_types.specs.declared.multicast.MulticastChange.TheVariants as multicast_changes
+use Rattle.p4_types.specs.declared.multicast.MulticastGroup.{MulticastGroup}
 use Rattle.p4_types.specs.declared.table.DigestChange.{DigestChange}
 use Rattle.p4_types.specs.declared.table.DigestChange.TheVariants as digest_changes
 use Rattle.p4_types.specs.declared.events.Committed.TheVariants as contents
@@ -37,6 +40,7 @@ use Rattle.role_arbiter.specs.State.{RolesState, no_roles, primary_of}
 use Rattle.plane_spec.specs.Bridge.{bridge_config, bridge_session}
 use Rattle.plane_spec.specs.Config.{Config, Committed, Event, cells_in, own_defaults}
 use Rattle.plane_spec.specs.Entries.{entry_named, is_full, absence_cause, new_entry, slots_drawn, inserted, modified, deleted}
+use Rattle.plane_spec.specs.Multicast.{multicast_limit, multicast_of, multicast_rows, multicast_changed}
 use Rattle.plane_spec.specs.Objects.{table_of, action_profile_of}
 use Rattle.plane_spec.specs.Profiles.{member_of, group_of, member_inserted, member_modified, member_deleted, group_inserted, group_modified, group_deleted, member_uses, group_uses, set_size, set_actions, members_in, groups_in, profile_size, is_overweight, weight_of, set_weight, entry_rows, group_rows}
 use Rattle.plane_spec.specs.UpdateRules.{caused, change_unless}
@@ -55,6 +59,8 @@ pub record Plane : Type 0 where
   pub groups : List Group
   -- the digests that are told of, by rising id
   pub digests : List DigestEntry
+  -- the groups of ports to which packets are copied, by rising id
+  pub multicast : List MulticastGroup
   -- the slot of the first cell of its indirect counters; those of the others follow, in the order of the P4Info
   pub cells : ℕ
 
@@ -82,7 +88,7 @@ pub record ControlState : Type 0 where
 
 -- a plane of a configuration with nothing written, whose cells draw the slots from this one on
 abbrev pub made_plane : ℕ → Config → Plane
-made_plane slot config = record { config = config; entries = []; changed = []; members = []; groups = []; digests = []; cells = slot }
+made_plane slot config = record { config = config; entries = []; changed = []; members = []; groups = []; digests = []; multicast = []; cells = slot }
 
 -- The bridge starts with an empty table and its session. It has no counters.
 abbrev pub opened : Start → ControlState
@@ -126,9 +132,10 @@ scope_in (Some p) = p.config
 abbrev pub scope_of : ControlState → ℕ → Option (List ℕ)
 scope_of c role = scope_in (primary c role)
 
--- how many rows a plane takes: its entries, members and groups
+-- how many rows a plane takes: its entries, members, groups and multicast groups
 abbrev pub rows_of : Plane → ℕ
-rows_of plane = sum_by (λ entry. entry_rows entry.action) plane.entries + length plane.members + sum_by group_rows plane.groups
+rows_of plane =
+    sum_by (λ entry. entry_rows entry.action) plane.entries + length plane.members + sum_by group_rows plane.groups + sum_by multicast_rows plane.multicast
 
 -- the same of a plane that there may be
 abbrev pub rows_in : Option Plane → ℕ
@@ -257,6 +264,22 @@ digest_cause_in entries (digest_changes.Insert entry) = if_present (is_some (dig
 digest_cause_in entries (digest_changes.Modify entry) = if_absent (is_some (digest_in entry.digest_id entries))
 digest_cause_in entries (digest_changes.Delete digest) = if_absent (is_some (digest_in digest entries))
 
+-- U10 and U12: why an INSERT of a multicast group is refused
+abbrev pub multicast_insert_cause : Room → List MulticastGroup → MulticastGroup → Option Cause
+multicast_insert_cause room groups group =
+    or_cause (if_present (is_some (multicast_of group.id groups))) (if_full (nat_lt multicast_limit (length groups + 1) || nat_lt room.rows (multicast_rows group)))
+
+-- U10 and U12: why a MODIFY of a multicast group is refused, where there is one of that id. What stands there after it counts.
+abbrev pub multicast_modify_cause : Option MulticastGroup → Room → MulticastGroup → Option Cause
+multicast_modify_cause None room group = if_absent false
+multicast_modify_cause (Some former) room group = if_full (nat_lt (room.rows + multicast_rows former) (multicast_rows group))
+
+-- U10 and U12: why a change of a multicast group is refused. One that entries choose may go.
+abbrev pub multicast_cause_in : Room → List MulticastGroup → MulticastChange → Option Cause
+multicast_cause_in room groups (multicast_changes.Insert group) = multicast_insert_cause room groups group
+multicast_cause_in room groups (multicast_changes.Modify group) = multicast_modify_cause (multicast_of group.id groups) room group
+multicast_cause_in room groups (multicast_changes.Delete id) = if_absent (is_some (multicast_of id groups))
+
 -- U10 to U12: why a change is refused in the state as it is. A default entry counts as present.
 abbrev pub change_cause : Room → Plane → Change → Option Cause
 change_cause room plane (changes.InsertEntry change) = insert_cause_in (table_of change.name.table plane.config.info) room plane change
@@ -265,6 +288,7 @@ change_cause room plane (changes.DeleteEntry name) = absence_cause name plane.en
 change_cause room plane (changes.ModifyDefault table action) = None
 change_cause room plane (changes.Profile change) = profile_cause room plane change
 change_cause room plane (changes.Digest change) = digest_cause_in plane.digests change
+change_cause room plane (changes.Multicast change) = multicast_cause_in room plane.multicast change
 
 -- why a change of the target plane is refused; without a plane no table is known
 abbrev pub cause_in : Option Plane → Room → Change → Option Cause
@@ -329,6 +353,7 @@ changed c plane (changes.DeleteEntry name) = with_entries c plane (deleted name 
 changed c plane (changes.ModifyDefault table action) = with_target c (record plane { changed = with_default table action plane.changed })
 changed c plane (changes.Profile change) = with_target c (profile_changed plane change)
 changed c plane (changes.Digest change) = with_target c (record plane { digests = digests_changed plane.digests change })
+changed c plane (changes.Multicast change) = with_target c (record plane { multicast = multicast_changed plane.multicast change })
 
 -- the state after a change, which stays where there is a cause to refuse it
 abbrev pub changed_unless : Option Cause → ControlState → Plane → Change → ControlState

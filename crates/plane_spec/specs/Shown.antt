@@ -1,4 +1,4 @@
--- Entries, members, groups and default actions as the messages that stand for them (P4Runtime 1.3.0, "P4 Entity Messages"; the order of fields and parameters: this project's profile).
+-- Entries, members, groups, default actions and multicast groups as the messages that stand for them (P4Runtime 1.3.0, "P4 Entity Messages"; the order of fields and parameters: this project's profile).
 use Rattle.std.specs.Prelude.{ℕ, ◌-◌, ◌^◌, min, ℤ, pos, not, nat_lt, true, false, if◌then◌else◌, List, [], ◌∷◌, map, fold, length, Option, Some, None, option_map}
 use Rattle.std.specs.List.{filter_map, zip}
 use Rattle.p4_types.specs.declared.info.Action as infos
@@ -13,10 +13,12 @@ use Rattle.p4_types.specs.declared.messages.FieldMatch.{FieldMatch}
 use Rattle.p4_types.specs.declared.messages.FieldMatchKind.{FieldMatchKind}
 use Rattle.p4_types.specs.declared.messages.FieldMatchKind.TheVariants as given
 use Rattle.p4_types.specs.declared.messages.Member as messages
+use Rattle.p4_types.specs.declared.messages.PacketReplicationEngineEntry.{PacketReplicationEngineEntry}
 use Rattle.p4_types.specs.declared.messages.Param.{Param}
 use Rattle.p4_types.specs.declared.messages.TableAction.{TableAction}
 use Rattle.p4_types.specs.declared.messages.TableAction.TheVariants as actions
 use Rattle.p4_types.specs.declared.messages.TableEntry.{TableEntry}
+use Rattle.p4_types.specs.declared.multicast.MulticastGroup.{MulticastGroup}
 use Rattle.p4_types.specs.declared.profiles.Group.{Group}
 use Rattle.p4_types.specs.declared.profiles.Member.{Member}
 use Rattle.p4_types.specs.declared.profiles.Share.{Share}
@@ -105,6 +107,10 @@ shown_share share = record { member_id = share.member; weight = weight_number sh
 -- a group as it is answered; its greatest size is not kept
 abbrev pub shown_group : Group → ActionProfileGroup
 shown_group group = record { action_profile_id = group.profile; group_id = group.id; members = map shown_share group.shares; max_size = pos 0 }
+
+-- a multicast group as it is answered
+abbrev pub shown_multicast : MulticastGroup → PacketReplicationEngineEntry
+shown_multicast group = record { multicast_group_entry = Some (record { multicast_group_id = group.id; replicas = group.replicas }) }
 
 -- an entry of this table, match and priority, and nothing else
 abbrev pub bare_entry : ℕ → List FieldMatch → ℤ → TableEntry

@@ -9,15 +9,17 @@ use Rattle.p4_types.specs.declared.messages.Entity.TheVariants as entities
 use Rattle.p4_types.specs.declared.messages.Update.{Update}
 use Rattle.p4_types.specs.declared.table.Change.{Change}
 use Rattle.p4_types.specs.declared.table.UpdateKind.{UpdateKind}
+use Rattle.plane_spec.specs.Multicast.{replication_resolution}
 use Rattle.plane_spec.specs.Objects.{table_of}
 use Rattle.plane_spec.specs.ProfileRules.{member_resolution, group_resolution, digest_resolution}
 use Rattle.plane_spec.specs.UpdateRules.{update_kind, entry_resolution}
 
--- U2: a table entry, a member, a group or a digest entry
+-- U2: a table entry, a member, a group, a digest entry or a replication entry
 abbrev pub entity_resolution : Info → Option (List ℕ) → UpdateKind → Entity → Result Change Cause
 entity_resolution info scope kind (entities.TableEntry entry) = entry_resolution info scope kind entry (table_of entry.table_id info)
 entity_resolution info scope kind (entities.ActionProfileMember member) = member_resolution info scope kind member
 entity_resolution info scope kind (entities.ActionProfileGroup group) = group_resolution info scope kind group
+entity_resolution info scope kind (entities.PacketReplicationEngineEntry entry) = replication_resolution scope kind entry.multicast_group_entry
 entity_resolution info scope kind (entities.DigestEntry entry) = digest_resolution info scope kind entry
 entity_resolution info scope kind _ = Err (record { rule = rules.U2; code = codes.Unimplemented })
 

@@ -1,7 +1,12 @@
 -- The counts that are kept of a plane stay its own where a change is made of both.
-use Rattle.std.proofs.Common.{◌≡◌, ◌∙◌, ap, sym, subst, ℕ, suc, ◌+◌, ◌≤◌, Bool, true, false, cond, List, [], ◌∷◌, length, map, Option, Some, refl, arith}
+use Rattle.std.proofs.Common.{◌≡◌, ◌∙◌, ap, sym, subst, ℕ, suc, ◌+◌, ◌<◌, ◌≤◌, Bool, true, false, cond, eqb, not, List, [], ◌∷◌, length, map, filter, Option, Some, None, refl, arith}
 use Rattle.std.specs.List.{AllByRecursion, AllPairs, find, sum_by}
+use Rattle.std.proofs.lemmas.Bool.Decides.{nat_tests}
+use Rattle.std.proofs.lemmas.List.Filters.{sum_by-filter_both}
 use Rattle.std.proofs.lemmas.List.Sums.{sum_by-cons}
+use Rattle.p4_types.specs.declared.multicast.MulticastChange.{MulticastChange}
+use Rattle.p4_types.specs.declared.multicast.MulticastChange.TheVariants as multicast_changes
+use Rattle.p4_types.specs.declared.multicast.MulticastGroup.{MulticastGroup}
 use Rattle.p4_types.specs.declared.profiles.Group.{Group}
 use Rattle.p4_types.specs.declared.profiles.Member.{Member}
 use Rattle.p4_types.specs.declared.table.Entry.{Entry}
@@ -9,14 +14,18 @@ use Rattle.p4_types.specs.declared.table.EntryAction.{EntryAction}
 use Rattle.p4_types.specs.declared.table.EntryChange.{EntryChange}
 use Rattle.p4_types.specs.declared.table.EntryName.{EntryName}
 use Rattle.plane_spec.specs.Entries.{same_name, entry_named, inserted, modified, deleted}
+use Rattle.plane_spec.specs.Multicast.{multicast_of, multicast_rows, multicast_changed}
 use Rattle.plane_spec.specs.Order.{StandsBefore}
 use Rattle.plane_spec.specs.Planes.{Plane, rows_of}
 use Rattle.plane_spec.specs.Profiles.{same_id, stands_before, member_of, group_of, member_inserted, member_modified, member_deleted, group_inserted, group_modified, group_deleted, names_member, names_group, shares_of, member_uses, group_uses, set_size, set_actions, entry_rows, group_rows}
+use Rattle.plane_spec.proofs.ChangedMulticast.{sum_with}
 use Rattle.plane_spec.proofs.ChangedPlanes.{stand_once, sum-of-modified}
 use Rattle.plane_spec.proofs.Counts.{sum-inserted}
 use Rattle.plane_spec.proofs.EntryOrder.{Stand}
-use Rattle.plane_spec.proofs.Keyed.{AreRising, sum-placed, sum-replaced, sum-removed, rising_once, length-sum}
-use Rattle.plane_state.specs.Versions.{Counted, IsCounted}
+use Rattle.plane_spec.proofs.Keyed.{AreRising, IsOnce, sum-placed, sum-replaced, sum-removed, rising_once, length-sum}
+use Rattle.plane_spec.proofs.Lists.{All-weaken}
+use Rattle.plane_state.specs.Versions.{Counted, IsCounted, group_changed, rows_at, rows_brought}
+use Rattle.table_store.specs.Rising as numbers
 use Rattle.profile_store.specs.Order.{AreInOrder, key_before, member_key, group_key}
 use Rattle.profile_store.specs.Rows.{Rows, members_of, groups_of, uses_of_member, uses_of_group, actions_of}
 use Rattle.profile_store.specs.declared.rows.GroupRow.{GroupRow}
@@ -206,6 +215,62 @@ group_deleted_counted old uses rows profile id former h order is found moved nam
 
 pub group_part : (f : Group → ℕ) (profile id : ℕ) (former : Group) (groups : List Group) → group_of profile id groups ≡ Some former → f former ≤ sum_by f groups
 group_part f profile id former groups found = part_of_sum (λ g. same_id profile id g.profile g.id) f former groups found
+
+-- ---- multicast groups
+
+later_differs : (a b n : ℕ) → a < b → eqb a n ≡ true → eqb b n ≡ false
+later_differs a b n above same = grind (arith, nat_tests)
+
+-- one has an id at most
+multicast_once : (at : ℕ) (groups : List MulticastGroup) → numbers.AreRising (λ g. g.id) groups → IsOnce (λ g. eqb g.id at) groups
+multicast_once at [] rising = tt
+multicast_once at (g ∷ groups) rising = (
+  λ same. All-weaken (λ (o : MulticastGroup). g.id < o.id) (λ o. eqb o.id at ≡ false) (λ o above. later_differs g.id o.id at above same) groups rising.0,
+  multicast_once at groups rising.1,
+)
+
+none_here : (b : Bool) (g : MulticastGroup) (o : Option MulticastGroup) (others : List MulticastGroup) → cond b (Some g) o ≡ None → (o ≡ None → sum_by multicast_rows others ≡ 0)
+    → sum_by multicast_rows (cond b (g ∷ others) others) ≡ 0
+none_here true g o others none later = absurd (cc)
+none_here false g o others none later = later none
+
+none_rows : (at : ℕ) (groups : List MulticastGroup) → multicast_of at groups ≡ None → sum_by multicast_rows (filter (λ g. eqb g.id at) groups) ≡ 0
+none_rows at [] none = refl
+none_rows at (g ∷ groups) none = none_here (eqb g.id at) g (multicast_of at groups) (filter (λ g. eqb g.id at) groups) none (none_rows at groups)
+
+-- the rows of those of an id are those of the one that is found
+own_rows : (o : Option MulticastGroup) (at : ℕ) (groups : List MulticastGroup) → multicast_of at groups ≡ o → numbers.AreRising (λ g. g.id) groups
+    → sum_by multicast_rows (filter (λ g. eqb g.id at) groups) ≡ rows_at o
+own_rows None at groups is rising = none_rows at groups is
+own_rows (Some former) at groups is rising =
+    let p : MulticastGroup → Bool = λ g. eqb g.id at in
+    omega (arith, sum-removed p multicast_rows former groups (multicast_once at groups rising) is, sum_by-filter_both p (λ g. not (p g)) (λ g. refl) multicast_rows groups)
+
+rows_changed : (change : MulticastChange) (groups : List MulticastGroup) → numbers.AreRising (λ g. g.id) groups
+    → sum_by multicast_rows (multicast_changed groups change) + rows_at (multicast_of (group_changed change) groups) ≡ sum_by multicast_rows groups + rows_brought change
+rows_changed (multicast_changes.Insert group) groups rising = omega (arith, sum_with multicast_rows group groups, own_rows _ group.id groups refl rising)
+rows_changed (multicast_changes.Modify group) groups rising = omega (arith, sum_with multicast_rows group groups, own_rows _ group.id groups refl rising)
+rows_changed (multicast_changes.Delete id) groups rising =
+    let p : MulticastGroup → Bool = λ g. eqb g.id id in
+    omega (arith, own_rows _ id groups refl rising, sum_by-filter_both p (λ g. not (p g)) (λ g. refl) multicast_rows groups)
+
+pub multicast_changed_counted : (old : Counted) (rows : ℕ) (change : MulticastChange) → IsCounted old → numbers.AreRising (λ g. g.id) old.plane.multicast
+    → rows + rows_at (multicast_of (group_changed change) old.plane.multicast) ≡ old.rows + rows_brought change
+    → IsCounted (record { plane = record old.plane { multicast = multicast_changed old.plane.multicast change }; uses = old.uses; rows = rows })
+multicast_changed_counted old rows change h rising taken = record {
+  members = h.members;
+  groups = h.groups;
+  sets = h.sets;
+  rows = omega (arith, h.rows, taken, rows_changed change old.plane.multicast rising);
+}
+
+found_rows : (o : Option MulticastGroup) (at : ℕ) (groups : List MulticastGroup) → multicast_of at groups ≡ o → rows_at o ≤ sum_by multicast_rows groups
+found_rows None at groups is = omega arith
+found_rows (Some former) at groups is = part_of_sum (λ (g : MulticastGroup). eqb g.id at) multicast_rows former groups is
+
+-- the rows of a multicast group are among those that are counted
+pub multicast_rows_within : (old : Counted) (at : ℕ) → IsCounted old → rows_at (multicast_of at old.plane.multicast) ≤ old.rows
+multicast_rows_within old at h = omega (arith, h.rows, found_rows _ at old.plane.multicast refl)
 
 -- ---- what is there to be given back
 

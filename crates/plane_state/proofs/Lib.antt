@@ -2,3 +2,4 @@ pub mod Refusing
 pub mod Counting
 pub mod Rises
 pub mod Tables
+pub mod MulticastCauses

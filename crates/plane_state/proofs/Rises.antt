@@ -1,14 +1,18 @@
--- Changes of what stands by rising number: default actions by their tables, digest entries by their digests.
+-- Changes of what stands by rising number: default actions by their tables, digest entries by their digests, multicast groups by their ids.
 use Rattle.std.proofs.Common.{◌≡◌, ℕ, suc, ◌<◌, ◌≤◌, Bool, true, false, cond, not, eqb, ltb, List, [], ◌∷◌, ◌++◌, get_or, set, take, drop, filter, Option, Some, None, is_some, Result, Ok, Err, OnOk, OnErr, append_assoc, refl, sym, ap, subst, ◌∙◌, arith}
 use Rattle.std.specs.List.{AllByRecursion, insert, remove, find}
 use Rattle.std.proofs.lemmas.Bool.Decides.{nat_tests}
 use Rattle.std.proofs.lemmas.List.{append-nil, set_split, set-get_or, take-append-drop}
 use Rattle.std.proofs.lemmas.List.Elements.{filter-append}
 use Rattle.p4_types.specs.declared.messages.DigestEntry.{DigestEntry}
+use Rattle.p4_types.specs.declared.multicast.MulticastChange.{MulticastChange}
+use Rattle.p4_types.specs.declared.multicast.MulticastChange.TheVariants as multicast_changes
+use Rattle.p4_types.specs.declared.multicast.MulticastGroup.{MulticastGroup}
 use Rattle.p4_types.specs.declared.table.ActionCall.{ActionCall}
 use Rattle.p4_types.specs.declared.table.DefaultAction.{DefaultAction}
 use Rattle.p4_types.specs.declared.table.DigestChange.{DigestChange}
 use Rattle.p4_types.specs.declared.table.DigestChange.TheVariants as digest_changes
+use Rattle.plane_spec.specs.Multicast.{multicast_changed}
 use Rattle.plane_spec.specs.Planes.{as_default, with_default, digests_changed}
 use Rattle.plane_spec.proofs.Lists.{All-weaken, All-filter}
 use Rattle.table_store.specs.Rising.{AreRising, StandsAt, WouldStandAt}
@@ -187,6 +191,18 @@ pub digests_rise_by : {T E : Type 0} (r : Result T E) (change : DigestChange) (o
     → AreRising (λ d. d.digest_id) new
 digests_rise_by (Ok x) change old new rising made same = subst (AreRising (λ d. d.digest_id)) (sym made) (digests_still_rise change old rising)
 digests_rise_by (Err e) change old new rising made same = subst (AreRising (λ d. d.digest_id)) (sym same) rising
+
+-- ---- for multicast groups
+
+multicast_still_rise : (change : MulticastChange) (groups : List MulticastGroup) → AreRising (λ g. g.id) groups → AreRising (λ g. g.id) (multicast_changed groups change)
+multicast_still_rise (multicast_changes.Insert group) groups rising = still_rising (λ (g : MulticastGroup). g.id) group.id (group ∷ []) groups (refl, refl) rising
+multicast_still_rise (multicast_changes.Modify group) groups rising = still_rising (λ (g : MulticastGroup). g.id) group.id (group ∷ []) groups (refl, refl) rising
+multicast_still_rise (multicast_changes.Delete id) groups rising = rising_filter (λ (g : MulticastGroup). g.id) (λ g. not (eqb g.id id)) groups rising
+
+pub multicast_rise_by : {T E : Type 0} (r : Result T E) (change : MulticastChange) (old new : List MulticastGroup) → AreRising (λ g. g.id) old → OnOk r (new ≡ multicast_changed old change) → OnErr r (new ≡ old)
+    → AreRising (λ g. g.id) new
+multicast_rise_by (Ok x) change old new rising made same = subst (AreRising (λ g. g.id)) (sym made) (multicast_still_rise change old rising)
+multicast_rise_by (Err e) change old new rising made same = subst (AreRising (λ g. g.id)) (sym same) rising
 
 -- ---- what is found
 

@@ -37,6 +37,7 @@ impl Parts {
             Change::ModifyDefault { table, action } => self.set_default(*table, action),
             Change::Profile(change) => self.change_profile(room, change),
             Change::Digest(change) => self.change_digest(change),
+            Change::Multicast(change) => self.change_multicast(room, change),
         }
     }
 }

@@ -9,6 +9,7 @@ mod digests;
 mod entries;
 mod groups;
 mod members;
+mod multicast;
 mod parts;
 mod plane;
 

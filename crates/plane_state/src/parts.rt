@@ -11,6 +11,7 @@ use crate::defaults;
 use list_types::{NoMemory, Refusal};
 use p4_types::code::Cause;
 use p4_types::messages::DigestEntry;
+use p4_types::multicast::MulticastGroup;
 use p4_types::shared::Shared;
 use p4_types::table::{ActionCall, DefaultAction};
 use profile_store::ProfileStore;
@@ -28,6 +29,7 @@ pub(crate) struct Parts {
     pub(crate) profiles: ProfileStore,
     pub(crate) changed: UndoVec<DefaultAction>,
     pub(crate) digests: UndoVec<DigestEntry>,
+    pub(crate) multicast: UndoVec<MulticastGroup>,
     pub(crate) cells: u32,
     /// How many rows all that is written takes.
     pub(crate) rows: u64,
@@ -45,13 +47,13 @@ impl Model for Parts {
     ghost Value = { CountedVersions };
 
     ghost view = { λ p. record {
-      now = counted_of p.config p.store.entries p.changed.items p.profiles.now p.digests.items p.cells p.rows;
-      before = counted_of p.config p.store.before p.changed.before p.profiles.before p.digests.before p.cells p.former_rows;
+      now = counted_of p.config p.store.entries p.changed.items p.profiles.now p.digests.items p.multicast.items p.cells p.rows;
+      before = counted_of p.config p.store.before p.changed.before p.profiles.before p.digests.before p.multicast.before p.cells p.former_rows;
     } };
 
     ghost invariant = { λ p. AreListed (record {
-      now = counted_of p.config p.store.entries p.changed.items p.profiles.now p.digests.items p.cells p.rows;
-      before = counted_of p.config p.store.before p.changed.before p.profiles.before p.digests.before p.cells p.former_rows;
+      now = counted_of p.config p.store.entries p.changed.items p.profiles.now p.digests.items p.multicast.items p.cells p.rows;
+      before = counted_of p.config p.store.before p.changed.before p.profiles.before p.digests.before p.multicast.before p.cells p.former_rows;
     }) };
 }
 
@@ -87,6 +89,7 @@ impl Parts {
             profiles: ProfileStore::open(alloc),
             changed: UndoVec::new(alloc),
             digests: UndoVec::new(alloc),
+            multicast: UndoVec::new(alloc),
             cells,
             rows: 0,
             former_rows: 0,
@@ -123,6 +126,7 @@ impl Parts {
         self.profiles.keep();
         self.changed.settle();
         self.digests.settle();
+        self.multicast.settle();
         if self.former_rows != self.rows {
             self.former_rows = self.rows;
         }
@@ -137,6 +141,7 @@ impl Parts {
         self.profiles.undo();
         self.changed.undo();
         self.digests.undo();
+        self.multicast.undo();
         self.rows = self.former_rows;
     }
 }

@@ -2,6 +2,7 @@
 ghost use Rattle.std.specs.Prelude.{◌≡◌, ◌<◌, All, map, IfOk, OnOk};
 ghost use Rattle.std.specs.Option.{option_map};
 ghost use Rattle.plane_spec.specs.Entries.{next_number};
+ghost use Rattle.plane_spec.specs.Multicast.{multicast_of};
 ghost use Rattle.plane_spec.specs.Planes.{made_plane, change_cause, default_in, default_entry, digest_in, rows_of};
 ghost use Rattle.plane_state.specs.Answers.{WithoutMemory, WhereRefused};
 ghost use Rattle.plane_state.specs.Versions.{plane_after, drawn_by};
@@ -10,10 +11,11 @@ ghost use Rattle.table_store.specs.Answers.{Refuses};
 
 use crate::config::Config;
 use crate::parts::{Drawn, Parts};
-use crate::{defaults, digests};
+use crate::{defaults, digests, multicast};
 use list_types::Refusal;
 use p4_types::code::Cause;
 use p4_types::messages::DigestEntry;
+use p4_types::multicast::MulticastGroup;
 use p4_types::shared::Shared;
 use p4_types::table::{Change, DefaultAction, Room};
 use profile_store::ProfileStore;
@@ -93,6 +95,20 @@ impl Plane {
         ensures { option_map (λ entry. entry.now) result ≡ digest_in digest self.now.now.digests }
     {
         digests::digest_in(self.parts.digests.as_slice(), digest)
+    }
+
+    /// The multicast groups, by rising id.
+    pub fn multicast_groups(&self) -> &[MulticastGroup]
+        ensures { result.now ≡ self.now.now.multicast }
+    {
+        self.parts.multicast.as_slice()
+    }
+
+    /// The multicast group of an id, if there is one.
+    pub fn multicast(&self, id: u128) -> Option<&MulticastGroup>
+        ensures { option_map (λ group. group.now) result ≡ multicast_of id self.now.now.multicast }
+    {
+        multicast::multicast_in(self.parts.multicast.as_slice(), id)
     }
 
     /// The default entry of a table that a Read shows: the changed one, else the program's own, if it has one.

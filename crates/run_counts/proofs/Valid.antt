@@ -57,6 +57,7 @@ changed_valid (changes.DeleteEntry name) c plane h own = target_valid c _ h own
 changed_valid (changes.ModifyDefault table action) c plane h own = target_valid c _ h own
 changed_valid (changes.Profile change) c plane h own = target_valid c _ h (profile_valid change plane own)
 changed_valid (changes.Digest change) c plane h own = target_valid c _ h own
+changed_valid (changes.Multicast change) c plane h own = target_valid c _ h own
 
 unless_valid : (o : Option Cause) (change : Change) (c : ControlState) (plane : Plane) → IsValidControl c → HasValid plane → IsValidControl (changed_unless o c plane change)
 unless_valid None change c plane h own = changed_valid change c plane h own

@@ -27,18 +27,18 @@ figures_add xs ys slot =
 
 -- ---- How large they are
 
-packets_most : (slot : ℕ) (records : List Carried) (g : Figures) → AllByRecursion IsWithin records → (fold counted g records slot).0 ≤ (g slot).0 + length records * 16640
+packets_most : (slot : ℕ) (records : List Carried) (g : Figures) → AllByRecursion IsWithin records → (fold counted g records slot).0 ≤ (g slot).0 + length records * 274560
 packets_most slot [] g h = omega arith
 packets_most slot (first ∷ records) g h = omega (arith, packets_most slot records (counted g first) h.1, count_by-le-length (is_of_slot slot) first.outcome.hits, h.0.0)
 
--- the bytes of one packet's hits: 16,640 times 9,216
-bytes_of_one : (slot : ℕ) (first : Carried) → IsWithin first → count_by (is_of_slot slot) first.outcome.hits * length first.arrival.1 ≤ 153354240
+-- the bytes of one packet's hits: 274,560 times 9,216
+bytes_of_one : (slot : ℕ) (first : Carried) → IsWithin first → count_by (is_of_slot slot) first.outcome.hits * length first.arrival.1 ≤ 2530344960
 bytes_of_one slot first h =
-    let hits : count_by (is_of_slot slot) first.outcome.hits ≤ 16640 = omega (arith, count_by-le-length (is_of_slot slot) first.outcome.hits, h.0) in
-    let product : count_by (is_of_slot slot) first.outcome.hits * length first.arrival.1 ≤ 16640 * 9216 = mul-le-mul hits h.1 in
+    let hits : count_by (is_of_slot slot) first.outcome.hits ≤ 274560 = omega (arith, count_by-le-length (is_of_slot slot) first.outcome.hits, h.0) in
+    let product : count_by (is_of_slot slot) first.outcome.hits * length first.arrival.1 ≤ 274560 * 9216 = mul-le-mul hits h.1 in
     product
 
-bytes_most : (slot : ℕ) (records : List Carried) (g : Figures) → AllByRecursion IsWithin records → (fold counted g records slot).1 ≤ (g slot).1 + length records * 153354240
+bytes_most : (slot : ℕ) (records : List Carried) (g : Figures) → AllByRecursion IsWithin records → (fold counted g records slot).1 ≤ (g slot).1 + length records * 2530344960
 bytes_most slot [] g h = omega arith
 bytes_most slot (first ∷ records) g h = omega (arith, bytes_most slot records (counted g first) h.1, bytes_of_one slot first h.0)
 

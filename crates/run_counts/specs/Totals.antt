@@ -14,9 +14,9 @@ use Rattle.switch_spec.specs.History.{Made}
 abbrev pub FiguresAdd : Type 0
 FiguresAdd = (xs ys : List Carried) (slot : ℕ) → figures_of (xs ++ ys) slot ≡ ((figures_of xs slot).0 + (figures_of ys slot).0, (figures_of xs slot).1 + (figures_of ys slot).1)
 
--- a packet of at most 9,216 bytes has at most 16,640 hits
+-- a packet of at most 9,216 bytes has at most 274,560 hits
 abbrev pub IsWithin : Carried → Type 0
-IsWithin carried = (length carried.outcome.hits ≤ 16640) × IsShort carried.arrival
+IsWithin carried = (length carried.outcome.hits ≤ 274560) × IsShort carried.arrival
 
 -- the packets are within these limits, and at most as many as 48 lanes carry of a million each
 pub record AreWithin (records : List Carried) : Type 0 where

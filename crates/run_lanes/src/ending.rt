@@ -1,5 +1,5 @@
 //! Lanes at their ends.
-ghost use Rattle.std.specs.Prelude.{◌≡◌, [], false, IfSome};
+ghost use Rattle.std.specs.Prelude.{◌≡◌, [], true, false, IfNone, IfSome};
 ghost use Rattle.std.specs.List.{AllByRecursion};
 ghost use Rattle.ctl_lock.specs.Calls.{journal_of};
 ghost use Rattle.ctl_lock.specs.Passing.{IsOwn};
@@ -30,6 +30,7 @@ pub fn end_caller<J: Naming>(closed: &mut ClosedDesk<J>, pass: CallPass<J>) -> O
     ensures called { IfSome result (HasCalled closed.old.told J.calls (journal_of closed.old.journal) pass.lane) }
     ensures reading { IfSome result (HasRead J.start closed.old.journal pass.lane) }
     ensures own { IfSome result (IsOwn J.list J.start J.bank (Controller pass.lane)) }
+    ensures none { IfNone result (pass.failed ≡ true) }
     ensures same { closed.new ≡ closed.old }
 {
     let mut pass = pass;
@@ -56,6 +57,7 @@ pub fn end_worker<J: Naming>(closed: &mut ClosedDesk<J>, pass: PacketPass<J>) ->
     requires ended { pass.failed ≡ false → pass.todo ≡ [] }
     ensures carried { IfSome result (HasCarried closed.old.told J.items (journal_of closed.old.journal) pass.lane) }
     ensures own { IfSome result (IsOwn J.list J.start J.bank (Worker pass.lane)) }
+    ensures none { IfNone result (pass.failed ≡ true) }
     ensures same { closed.new ≡ closed.old }
 {
     let (mets, mut work) = pass.into_work()?;

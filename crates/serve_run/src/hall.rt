@@ -4,7 +4,7 @@ ghost use Rattle.std.specs.Prelude.{◌≡◌, length, IfOk};
 use crate::shared_desk::LanePass;
 use list_types::NoMemory;
 use std::alloc::Global;
-use std::sync::{Condvar, Mutex, Wait};
+use std::sync::{Mutex, Wait};
 
 /// How many passes a desk has: one for each lane, 0 to 31.
 pub(crate) const LANES: usize = 32;
@@ -49,7 +49,6 @@ impl<P: LanePass> Places<P> {
 #[derive(Drop)]
 pub(crate) struct Hall<P> {
     places: Mutex<Places<P>>,
-    came: Condvar,
 }
 
 impl<P: LanePass> Hall<P> {
@@ -63,31 +62,22 @@ impl<P: LanePass> Hall<P> {
         }
         Ok(Hall {
             places: Mutex::new(places),
-            came: Condvar::new(),
         })
     }
 
-    /// Takes the pass of the lowest lane that serves no link. It waits until there is one.
-    pub(crate) fn take<W: Wait>(&self, rt: &W) -> P {
-        let mut places = self.places.lock(rt);
-        for _ in rt.forever() {
-            if let Some(pass) = places.take() {
-                return pass;
-            }
-            places = self.came.wait(rt, places);
-        }
-        unreachable!()
+    /// Takes the pass of the lowest lane that serves no link, if there is one.
+    pub(crate) fn take<W: Wait>(&self, rt: &W) -> Option<P> {
+        self.places.lock(rt).take()
     }
 
     /// Gives a pass back, for the next link.
     pub(crate) fn give<W: Wait>(&self, rt: &W, pass: P) {
         self.places.lock(rt).put(pass);
-        self.came.notify_one();
     }
 
     /// The passes, once no link is served any more.
     pub(crate) fn into_passes(self) -> Vec<Option<P>> {
-        let Hall { places, came: _ } = self;
+        let Hall { places } = self;
         let Places { places } = places.into_inner();
         places
     }

@@ -12,10 +12,12 @@ mod live;
 mod opening;
 mod ports;
 mod ports_end;
+mod rooms;
 mod served;
 mod shared_desk;
 mod sharing;
 mod threads;
+mod waiting;
 
 pub use ending::ServeEnd;
 pub use link_pass::{LinkPass, with_verdicts};

@@ -3,7 +3,7 @@ use crate::link_pass::LinkPass;
 use crate::ports::serve_ports;
 use crate::served::ServedDesk;
 use crate::shared_desk::{LanePass, SharedDesk};
-use link_loop::serve_link;
+use link_loop::{Room, serve_link};
 use live_desk::{DeskWorker, LiveDesk, Naming};
 use p4_types::calls::Call;
 use p4_types::code::Code;
@@ -41,7 +41,7 @@ impl<J: Naming + Send, R: Wait + Drop> SharedDesk for LiveDesk<J, R> {
 
     // It promises nothing, so that a thread does not carry what `serve_link` does.
     #[tactic(none)]
-    fn serve<W: Wait, L: Link, P: Ports, K: Clock>(
+    fn serve<W: Wait, L: Link, P: Ports, K: Clock, O: Room>(
         &self,
         rt: &W,
         alloc: Global,
@@ -49,11 +49,12 @@ impl<J: Naming + Send, R: Wait + Drop> SharedDesk for LiveDesk<J, R> {
         ports: &mut P,
         pass: &mut LinkPass<J>,
         clock: &mut K,
+        room: &mut O,
     ) {
         let lane = pass.pass.lane();
         self.set_waker(lane, link.waker());
         let desk = ServedDesk::new(self);
-        let _end = serve_link(rt, alloc, link, ports, &desk, pass, clock);
+        let _end = serve_link(rt, alloc, link, ports, &desk, pass, clock, room);
         self.set_waker(lane, None);
         leave(rt, self, pass);
     }

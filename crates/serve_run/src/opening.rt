@@ -9,6 +9,7 @@ use crate::clock::LentClock;
 use crate::ending::ServeEnd;
 use crate::hall::Hall;
 use crate::link_pass::with_verdicts;
+use crate::rooms::Rooms;
 use crate::shared_desk::SharedDesk;
 use crate::sharing::Shared;
 use crate::threads::serve_net;
@@ -68,12 +69,18 @@ fn serve_at<
         drop(workers);
         return (net, ServeEnd::Memory);
     };
+    let Ok(rooms) = Rooms::open(alloc) else {
+        drop(desk);
+        drop(workers);
+        return (net, ServeEnd::Memory);
+    };
     let shared = Shared {
         rt,
         alloc,
         desk,
         hall,
         callers,
+        rooms,
         clock: Mutex::new(LentClock::new(clock)),
         stop: StopFlag::new(),
     };
@@ -84,6 +91,7 @@ fn serve_at<
         desk,
         hall,
         callers: _callers,
+        rooms: _rooms,
         clock: _,
         stop: _,
     } = shared;
@@ -152,7 +160,9 @@ fn listen_and_serve<T: Threads + Wait + Sync, N: Net + Drop, K: Clock + Send>(
 
 /// Serves controllers and packets of a net until it ends or fails (P4Runtime 1.3.0, "P4Runtime Service"): it listens, and each link is
 /// served on a thread of its own by the pass of the lowest of the 32 lanes that serve none, beside the workers, at most 16, of which
-/// each carries the packets of ports of its own. While all lanes serve a link no other is accepted. Where no thread can be made for a
+/// each carries the packets of ports of its own. A link that comes while all lanes serve one waits for a lane,
+/// 128 links at most, and is closed where none is free within 10 seconds; meanwhile the link that has been
+/// quiet for longest, but for 10 seconds at least, and has no channel open is asked to make room. Where no thread can be made for a
 /// link, the link is closed, and where none can be made for a worker, the caller does its work at the end. It returns once all threads have ended, and waits for that; a net that never ends it serves for ever.
 pub fn serve<T: Threads + Wait + Sync, N: Net + Drop, K: Clock + Send>(
     rt: &T,

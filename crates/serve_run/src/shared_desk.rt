@@ -2,6 +2,7 @@
 //! these are known to the threads by what is asked of them alone.
 ghost use Rattle.std.specs.Prelude.{◌<◌};
 
+use link_loop::Room;
 use std::alloc::Global;
 use std::sync::Wait;
 use sw_edge::{Clock, Link, Ports, Stop};
@@ -22,7 +23,7 @@ pub(crate) trait SharedDesk {
     type Worker: Send + Drop;
 
     /// Serves a controller's link to its end, with ports at which its packets leave, and ends what is left of its session then.
-    fn serve<W: Wait, L: Link, P: Ports, K: Clock>(
+    fn serve<W: Wait, L: Link, P: Ports, K: Clock, O: Room>(
         &self,
         rt: &W,
         alloc: Global,
@@ -30,6 +31,7 @@ pub(crate) trait SharedDesk {
         ports: &mut P,
         pass: &mut Self::Pass,
         clock: &mut K,
+        room: &mut O,
     );
 
     /// Carries the packets of a worker's ports until these end or it is asked to stop.

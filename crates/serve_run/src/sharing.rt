@@ -2,6 +2,7 @@
 use crate::callers::Callers;
 use crate::clock::ThreadClock;
 use crate::hall::Hall;
+use crate::rooms::{LaneRoom, Rooms};
 use crate::shared_desk::SharedDesk;
 use real_net::{FlagStop, StopFlag};
 use std::alloc::Global;
@@ -16,6 +17,7 @@ pub(crate) struct Shared<D, A, R, C, L, P> {
     pub(crate) desk: D,
     pub(crate) hall: Hall<A>,
     pub(crate) callers: Callers<A, L, P>,
+    pub(crate) rooms: Rooms,
     pub(crate) clock: Mutex<C>,
     pub(crate) stop: StopFlag,
 }
@@ -53,6 +55,7 @@ pub(crate) fn serve_caller<
         mut ports,
     } = caller;
     let mut clock = ThreadClock::new(rt, &shared.clock);
+    let mut room = LaneRoom::new(&shared.rooms, place);
     shared.desk.serve(
         rt,
         shared.alloc,
@@ -60,7 +63,9 @@ pub(crate) fn serve_caller<
         &mut ports,
         &mut pass,
         &mut clock,
+        &mut room,
     );
+    room.end();
     shared.hall.give(rt, pass);
 }
 

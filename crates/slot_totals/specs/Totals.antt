@@ -20,9 +20,9 @@ figures_in counts slot = slice_index_or (pairs_of counts) slot (0, 0)
 pub record AreUnder (packets bytes : ℕ) (counts : List Figure) : Type 0 where
   pub all : All (λ figure. (figure.packets ≤ packets) × (figure.bytes ≤ bytes)) counts
 
--- what packets had that were so many, each with fewer than 2^16 hits and 2^14 bytes
+-- what packets had that were so many, each with at most 274,560 hits of at most 9,216 bytes
 pub record IsKept (packets : ℕ) (counts : List Figure) : Type 0 where
-  pub under : AreUnder (packets * 65536) (packets * 1073741824) counts
+  pub under : AreUnder (packets * 274560) (packets * 2530344960) counts
   pub slots : length counts ≤ 2 ^ 32
 
 -- the slot that a hit is counted at, if it is counted

@@ -50,7 +50,7 @@ pub(crate) fn grow_for(counts: &mut Vec<Figure>, hits: &[HitMark]) -> Result<(),
 // Counts a packet of so many bytes at a slot.
 fn count_at(counts: &mut Vec<Figure>, slot: Option<u32>, bytes: u64)
     requires within { IsWithin (length counts.old.items) slot }
-    requires under { AreUnder (2 ^ 63 + 2 ^ 16) (2 ^ 63 + 2 ^ 30) counts.old.items }
+    requires under { AreUnder (2 ^ 63 + 2 ^ 19) (2 ^ 63 + 2 ^ 62 + 2 ^ 32) counts.old.items }
     requires short { bytes ≤ 9216 }
     ensures { counts.new.items ≡ counted_at bytes slot counts.old.items }
 {
@@ -67,8 +67,8 @@ fn count_at(counts: &mut Vec<Figure>, slot: Option<u32>, bytes: u64)
 /// Counts a packet of so many bytes at the slot of each hit.
 pub(crate) fn count_hits(counts: &mut Vec<Figure>, hits: &[HitMark], bytes: u64)
     requires within { All (λ hit. IsWithin (length counts.old.items) (slot_of hit)) hits.now }
-    requires under { AreUnder (2 ^ 63) (2 ^ 63) counts.old.items }
-    requires few { length hits.now < 2 ^ 16 }
+    requires under { AreUnder (2 ^ 63) (2 ^ 63 + 2 ^ 62) counts.old.items }
+    requires few { length hits.now ≤ 274560 }
     requires short { bytes ≤ 9216 }
     ensures figures { (at : ℕ) → figures_in counts.new.items at ≡ figures_after (figures_in counts.old.items) hits.now bytes at }
     ensures len { length counts.new.items ≡ length counts.old.items }

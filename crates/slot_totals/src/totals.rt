@@ -52,7 +52,7 @@ impl Totals {
 
     /// Adds a packet of so many bytes that had these hits. Without memory nothing is counted.
     pub fn add(&mut self, hits: &[HitMark], bytes: usize) -> Result<(), NoMemory>
-        requires few { length hits.now < 2 ^ 16 }
+        requires few { length hits.now ≤ 274560 }
         requires short { bytes ≤ 9216 }
         requires packets { self.old.packets < 2 ^ 32 }
         ensures ok { OnOk result (figures self.new ≡ figures_after (figures self.old) hits.now bytes) }

@@ -3,7 +3,7 @@
 ghost use Rattle.std.specs.Prelude.{◌≤◌, length};
 
 use crate::telling::LastRun;
-use link_loop::{LinkEnd, serve_link};
+use link_loop::{EnoughRoom, LinkEnd, serve_link};
 use live_desk::{ClosedDesk, DeskWorker, LiveDesk, Naming};
 use mail_room::Next;
 use p4_types::calls::{Call, Reply};
@@ -175,7 +175,16 @@ impl<J: Naming, R: Wait + Drop> RowDesk for LiveDesk<J, R> {
         pass: &mut LinkPass<J>,
         clock: &mut K,
     ) -> LinkEnd {
-        serve_link(rt, alloc, link, ports, &ServedDesk::new(self), pass, clock)
+        serve_link(
+            rt,
+            alloc,
+            link,
+            ports,
+            &ServedDesk::new(self),
+            pass,
+            clock,
+            &mut EnoughRoom,
+        )
     }
 
     fn close(self) -> ClosedDesk<J> {

@@ -123,6 +123,7 @@ fn end_in_words(end: LinkEnd) -> &'static str {
         LinkEnd::Fault => "fault",
         LinkEnd::Refused(_) => "refused",
         LinkEnd::Memory => "memory",
+        LinkEnd::Quiet => "quiet",
     }
 }
 

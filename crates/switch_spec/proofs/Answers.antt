@@ -16,6 +16,7 @@ use Rattle.p4_types.specs.declared.info.Info.{Info}
 use Rattle.p4_types.specs.declared.messages.Error.{Error}
 use Rattle.p4_types.specs.declared.messages.Entity.{Entity}
 use Rattle.p4_types.specs.declared.messages.Entity.TheVariants as entities
+use Rattle.p4_types.specs.declared.messages.MulticastGroupEntry.{MulticastGroupEntry}
 use Rattle.p4_types.specs.declared.messages.ReadRequest.{ReadRequest}
 use Rattle.p4_types.specs.declared.messages.TableEntry.{TableEntry}
 use Rattle.p4_types.specs.declared.events.Event.TheVariants as events
@@ -44,7 +45,7 @@ use Rattle.plane_spec.specs.Legal.{MayChanges, Legal}
 use Rattle.plane_spec.specs.Objects.{table_of}
 use Rattle.plane_spec.specs.Planes.{ControlState, Plane, target, primary, is_of_primary, with_roles, change_applied, outcome, applied, outcomes, state_after}
 use Rattle.plane_spec.proofs.Steady.{change_steady, fold_closed, fold_next}
-use Rattle.switch_spec.specs.Reading.{entry_refusal_in, direct_refusal, entity_refusal, first_of, read_unless, read_in, read_result}
+use Rattle.switch_spec.specs.Reading.{entry_refusal_in, direct_refusal, replication_refusal, entity_refusal, first_of, read_unless, read_in, read_result}
 use Rattle.switch_spec.specs.History.{is_unavailable, steps_of}
 use Rattle.p4v1_read.specs.RoleConfigs.{read_update}
 use Rattle.switch_spec.proofs.RoleConfigs.{update_served}
@@ -146,6 +147,10 @@ direct_available : (info : Info) (o : Option TableEntry) → Available (direct_r
 direct_available info None = tt
 direct_available info (Some asked) = entry_available _ _ _ (in_available (table_of asked.table_id info) asked)
 
+replication_available : (o : Option MulticastGroupEntry) → Available (replication_refusal o)
+replication_available None = refl
+replication_available (Some asked) = tt
+
 entity_available : (info : Info) (asked : Option Entity) → Available (entity_refusal info asked)
 entity_available info None = refl
 entity_available info (Some (entities.TableEntry asked)) = entry_available _ _ _ (in_available (table_of asked.table_id info) asked)
@@ -154,7 +159,7 @@ entity_available info (Some (entities.ActionProfileGroup x)) = id_available _
 entity_available info (Some (entities.CounterEntry x)) = id_available _
 entity_available info (Some (entities.DirectCounterEntry x)) = direct_available info x.table_entry
 entity_available info (Some (entities.DigestEntry x)) = id_available _
-entity_available info (Some (entities.PacketReplicationEngineEntry x)) = refl
+entity_available info (Some (entities.PacketReplicationEngineEntry x)) = replication_available x.multicast_group_entry
 entity_available info (Some (entities.Other x)) = refl
 
 first_more : (o : Option Code) (others : List (Option Code)) → Available o → Available (first_of others) → Available (first_of (o ∷ others))

@@ -28,6 +28,7 @@ at_changed (changes.DeleteEntry name) c plane = at_target c _
 at_changed (changes.ModifyDefault table action) c plane = at_target c _
 at_changed (changes.Profile change) c plane = at_target c _
 at_changed (changes.Digest change) c plane = at_target c _
+at_changed (changes.Multicast change) c plane = at_target c _
 
 at_unless : (o : Option Cause) (change : Change) (c : ControlState) (plane : Plane) → (changed_unless o c plane change).cpu ≡ c.cpu
 at_unless None change c plane = at_changed change c plane

@@ -16,6 +16,8 @@ use Rattle.p4_types.specs.declared.messages.DirectCounterEntry.{DirectCounterEnt
 use Rattle.p4_types.specs.declared.messages.Entity.{Entity}
 use Rattle.p4_types.specs.declared.messages.Entity.TheVariants as entities
 use Rattle.p4_types.specs.declared.messages.Index.{Index}
+use Rattle.p4_types.specs.declared.messages.MulticastGroupEntry.{MulticastGroupEntry}
+use Rattle.p4_types.specs.declared.messages.PacketReplicationEngineEntry.{PacketReplicationEngineEntry}
 use Rattle.p4_types.specs.declared.messages.ReadRequest.{ReadRequest}
 use Rattle.p4_types.specs.declared.messages.TableEntry.{TableEntry}
 use Rattle.p4_types.specs.declared.table.Entry.{Entry}
@@ -28,7 +30,7 @@ use Rattle.plane_spec.specs.Objects.{table_of, action_profile_of, digest_of}
 use Rattle.switch_spec.specs.Counts.{Figures}
 use Rattle.switch_spec.specs.declared.cells.Cells.{Cells}
 use Rattle.plane_spec.specs.UpdateRules.{is_zero, has_match, is_malformed_match, is_too_wide, is_canonical_match, name_of}
-use Rattle.plane_spec.specs.Shown.{by_rising, shown_member, shown_group, shown_entry, shown_default, shown_name}
+use Rattle.plane_spec.specs.Shown.{by_rising, shown_member, shown_group, shown_multicast, shown_entry, shown_default, shown_name}
 
 -- a match breaks U6, U7 or U8 in its own part
 abbrev pub match_refusal : Table → TableEntry → Option Code
@@ -62,6 +64,11 @@ abbrev pub direct_refusal : Info → Option TableEntry → Option Code
 direct_refusal info None = None
 direct_refusal info (Some asked) = entry_refusal info asked
 
+-- why a replication entry that is asked for is refused: it has no multicast group
+abbrev pub replication_refusal : Option MulticastGroupEntry → Option Code
+replication_refusal None = Some codes.Unimplemented
+replication_refusal (Some asked) = None
+
 -- why an entity that is asked for is refused
 abbrev pub entity_refusal : Info → Option Entity → Option Code
 entity_refusal info (Some (entities.TableEntry asked)) = entry_refusal info asked
@@ -69,6 +76,7 @@ entity_refusal info (Some (entities.ActionProfileMember asked)) = id_refusal ask
 entity_refusal info (Some (entities.ActionProfileGroup asked)) = id_refusal asked.action_profile_id (is_some (action_profile_of asked.action_profile_id info))
 entity_refusal info (Some (entities.CounterEntry asked)) = id_refusal asked.counter_id (is_some (counter_of asked.counter_id info))
 entity_refusal info (Some (entities.DirectCounterEntry asked)) = direct_refusal info asked.table_entry
+entity_refusal info (Some (entities.PacketReplicationEngineEntry asked)) = replication_refusal asked.multicast_group_entry
 entity_refusal info (Some (entities.DigestEntry asked)) = id_refusal asked.digest_id (is_some (digest_of asked.digest_id info))
 entity_refusal info _ = Some codes.Unimplemented
 
@@ -123,6 +131,11 @@ selected_groups plane asked = map shown_group (filter (λ group. is_asked_id ask
 -- the digest entries that are asked for
 abbrev pub selected_digests : Plane → DigestEntry → List DigestEntry
 selected_digests plane asked = filter (λ entry. is_asked_id asked.digest_id entry.digest_id) plane.digests
+
+-- the multicast groups that are asked for, by rising id
+abbrev pub selected_multicast : Plane → Option MulticastGroupEntry → List PacketReplicationEngineEntry
+selected_multicast plane None = []
+selected_multicast plane (Some asked) = map shown_multicast (filter (λ group. is_asked_id asked.multicast_group_id group.id) plane.multicast)
 
 -- a figure as a number of its type (int64); those that are counted are far below its greatest
 abbrev pub count_number : ℕ → ℤ
@@ -186,6 +199,7 @@ selected g plane (Some (entities.ActionProfileMember asked)) = map entities.Acti
 selected g plane (Some (entities.ActionProfileGroup asked)) = map entities.ActionProfileGroup (selected_groups plane asked)
 selected g plane (Some (entities.CounterEntry asked)) = map entities.CounterEntry (selected_counters g plane asked)
 selected g plane (Some (entities.DirectCounterEntry asked)) = map entities.DirectCounterEntry (selected_direct g plane asked)
+selected g plane (Some (entities.PacketReplicationEngineEntry asked)) = map entities.PacketReplicationEngineEntry (selected_multicast plane asked.multicast_group_entry)
 selected g plane (Some (entities.DigestEntry asked)) = map entities.DigestEntry (selected_digests plane asked)
 selected g plane _ = []
 

@@ -9,16 +9,17 @@ use std::sync::Wait;
 use std::thread::yield_now;
 use sw_edge::{Link, Pulled, Sent};
 
-/// What a link gives, once at least so many bytes were sent at the other place; it ends once at least so many were.
+/// What a link gives, once at least so many bytes were sent at the other place; it ends once at least so many were, and once so many
+/// links were let go.
 #[derive(Clone, Copy)]
 pub struct Script<'a> {
     pub bytes: &'a [u8],
     pub before: usize,
     pub until: usize,
+    pub gone: u64,
 }
 
 /// A link that waits for what is sent at another place.
-#[derive(Drop)]
 pub struct WaitingLink<'a, W> {
     rt: &'a W,
     stage: &'a Stage,
@@ -28,6 +29,23 @@ pub struct WaitingLink<'a, W> {
     faults: u64,
     quiets: u64,
     ends: u64,
+}
+
+// It notes that it is let go.
+impl<'a, W> Drop for WaitingLink<'a, W> {
+    fn drop(self) {
+        self.stage.let_go();
+        let Self {
+            rt: _,
+            stage: _,
+            own: _,
+            other: _,
+            script: _,
+            faults: _,
+            quiets: _,
+            ends: _,
+        } = self;
+    }
 }
 
 impl<'a, W> WaitingLink<'a, W> {
@@ -52,12 +70,12 @@ impl<'a, W> WaitingLink<'a, W> {
     }
 
     fn waits(&self) -> bool {
-        let length = if self.script.bytes.is_empty() {
-            self.script.until
+        let (length, gone) = if self.script.bytes.is_empty() {
+            (self.script.until, self.script.gone)
         } else {
-            self.script.before
+            (self.script.before, 0)
         };
-        if self.other.length() >= length {
+        if self.other.length() >= length && self.stage.gone() >= gone {
             return false;
         }
         if self.quiets < PATIENCE {

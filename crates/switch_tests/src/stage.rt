@@ -49,11 +49,12 @@ impl Place {
     }
 }
 
-/// Two places, how many packets came in, and whether links or ports waited in vain.
+/// Two places, how many packets came in and how many links were let go, and whether links or ports waited in vain.
 pub struct Stage {
     pub first: Place,
     pub second: Place,
     packets: AtomicU64,
+    gone: AtomicU64,
     gave_up: AtomicBool,
 }
 
@@ -63,6 +64,7 @@ impl Drop for Stage {
             first: _first,
             second: _second,
             packets: _packets,
+            gone: _gone,
             gave_up: _gave_up,
         } = self;
     }
@@ -75,6 +77,7 @@ impl Stage {
             first: Place::new(alloc),
             second: Place::new(alloc),
             packets: AtomicU64::new(0),
+            gone: AtomicU64::new(0),
             gave_up: AtomicBool::new(false),
         }
     }
@@ -87,6 +90,16 @@ impl Stage {
     /// How many packets were taken so far.
     pub fn packets(&self) -> u64 {
         self.packets.load(Ordering::SeqCst)
+    }
+
+    /// Notes that a link was let go.
+    pub fn let_go(&self) {
+        self.gone.fetch_add(1, Ordering::SeqCst);
+    }
+
+    /// How many links were let go so far.
+    pub fn gone(&self) -> u64 {
+        self.gone.load(Ordering::SeqCst)
     }
 
     /// Notes that a link or ports waited in vain.

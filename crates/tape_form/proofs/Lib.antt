@@ -4,6 +4,7 @@ pub mod Complete
 pub mod Joining
 pub mod Judging
 pub mod Loop
+pub mod Marks
 pub mod Numbers
 pub mod Standing
 pub mod Taking

@@ -4,6 +4,7 @@ ghost use Rattle.run_spec.specs.ReportText.{report_text};
 
 mod journal;
 mod lines;
+mod marks;
 mod packets;
 mod words;
 

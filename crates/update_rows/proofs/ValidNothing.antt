@@ -41,6 +41,7 @@ standard = record {
   egress_spec = record { field = omega arith; header = omega arith; width = omega arith };
   nine_bits = refl;
   egress_port = tt;
+  egress_rid = tt;
   mcast_grp = tt;
   parser_error = tt;
   checksum_error = tt;

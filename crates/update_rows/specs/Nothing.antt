@@ -21,6 +21,7 @@ no_program = record {
     packet_length = None;
     egress_spec = record { index = 0; header = 0; width = 9 };
     egress_port = None;
+    egress_rid = None;
     mcast_grp = None;
     parser_error = None;
     checksum_error = None;

@@ -65,6 +65,7 @@ fn program(alloc: Global) -> Result<Program, NoMemory>
             packet_length: None,
             egress_spec: EGRESS_SPEC,
             egress_port: None,
+            egress_rid: None,
             mcast_grp: None,
             parser_error: None,
             checksum_error: None,

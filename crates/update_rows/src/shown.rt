@@ -19,6 +19,7 @@ fn tell_change(told: &mut String, change: &Change) {
         Change::ModifyDefault { .. } => say(told, "default"),
         Change::Profile(_) => say(told, "profile"),
         Change::Digest(_) => say(told, "digest"),
+        Change::Multicast(_) => say(told, "multicast"),
     }
 }
 

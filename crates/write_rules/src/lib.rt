@@ -6,6 +6,7 @@ mod digests;
 mod groups;
 mod matches;
 mod members;
+mod multicast;
 mod numbers;
 mod rules;
 mod sets;

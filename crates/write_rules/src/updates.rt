@@ -8,7 +8,7 @@ ghost use Rattle.plane_spec.specs.UpdateRules.{call_flaw, chosen_flaw, plain_fla
 ghost use Rattle.plane_spec.specs.Updates.{entity_resolution, resolution};
 ghost use Rattle.write_rules.specs.Widths.{HasWidths};
 
-use crate::{actions, digests, groups, matches, members, rules, sets};
+use crate::{actions, digests, groups, matches, members, multicast, rules, sets};
 use list_types::NoMemory;
 use p4_types::code::{Cause, Code, Rule};
 use p4_types::info::{ActionProfile, Table};
@@ -290,6 +290,7 @@ fn entity(
         Entity::TableEntry(given) => entry(alloc, info, scope, kind, given),
         Entity::ActionProfileMember(given) => Ok(members::resolve(info, scope, kind, given)),
         Entity::ActionProfileGroup(given) => groups::resolve(alloc, info, scope, kind, given),
+        Entity::PacketReplicationEngineEntry(given) => Ok(multicast::resolve(scope, kind, given)),
         Entity::DigestEntry(given) => Ok(digests::resolve(info, scope, kind, *given)),
         _ => Ok(Err(Cause {
             rule: Rule::U2,

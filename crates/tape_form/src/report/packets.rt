@@ -1,13 +1,14 @@
 // The packets' lines of a report, lane by lane.
-ghost use Rattle.std.specs.Prelude.{◌≡◌, ◌∷◌, ◌++◌, [], OnOk, codes, string_bytes};
+ghost use Rattle.std.specs.Prelude.{◌≡◌, ◌<◌, ◌∷◌, ◌++◌, [], OnOk, codes, string_bytes};
 ghost use Rattle.std.specs.List.{flat_map, join_with_byte};
 ghost use Rattle.std.specs.Fmt.{decimal};
 ghost use Rattle.p4_types.specs.declared.tape.Who.TheVariants as who;
 ghost use Rattle.switch_spec.specs.Carrying.{is_who, records_of};
 ghost use Rattle.run_spec.specs.ReportText.{who_word, fate_word, packet_line, packet_lines};
-ghost use Rattle.tape_form.specs.LaneLines.{lane_lines};
+ghost use Rattle.tape_form.specs.LaneLines.{AreMarked, lane_lines, mark_place};
 
 use crate::report::lines::AsLine;
+use crate::report::marks::{LANES, lanes_of, mark_place};
 use crate::report::words::{push_fate, push_list, push_option, push_who};
 use p4_types::records::Record;
 use p4_types::tape::Who;
@@ -71,22 +72,52 @@ fn push_lane(
     Ok(())
 }
 
+/// Adds the lines of a lane's packets; a lane without a mark has none.
+fn push_marked(
+    alloc: Global,
+    out: &mut String,
+    marks: &[bool; LANES],
+    lane: Who,
+    records: &[Record],
+) -> Result<(), AllocError>
+    requires place { mark_place lane < 48 }
+    requires marked { AreMarked marks.now records.now }
+    ensures { OnOk result (string_bytes out.new ≡ string_bytes out.old ++ flat_map packet_line (records_of lane records.now)) }
+{
+    if !marks[mark_place(lane)] {
+        return Ok(());
+    }
+    push_lane(alloc, out, lane, records)
+}
+
 /// Adds the lines of the packets of the workers' lanes.
-fn push_workers(alloc: Global, out: &mut String, records: &[Record]) -> Result<(), AllocError>
+fn push_workers(
+    alloc: Global,
+    out: &mut String,
+    marks: &[bool; LANES],
+    records: &[Record],
+) -> Result<(), AllocError>
+    requires { AreMarked marks.now records.now }
     ensures { OnOk result (string_bytes out.new ≡ string_bytes out.old ++ lane_lines who.Worker 0 16 records.now) }
 {
     for lane in 0..16u16 {
-        push_lane(alloc, out, Who::Worker(lane), records)?;
+        push_marked(alloc, out, marks, Who::Worker(lane), records)?;
     }
     Ok(())
 }
 
 /// Adds the lines of the packets of the controllers' lanes.
-fn push_controllers(alloc: Global, out: &mut String, records: &[Record]) -> Result<(), AllocError>
+fn push_controllers(
+    alloc: Global,
+    out: &mut String,
+    marks: &[bool; LANES],
+    records: &[Record],
+) -> Result<(), AllocError>
+    requires { AreMarked marks.now records.now }
     ensures { OnOk result (string_bytes out.new ≡ string_bytes out.old ++ lane_lines who.Controller 0 32 records.now) }
 {
     for lane in 0..32u16 {
-        push_lane(alloc, out, Who::Controller(lane), records)?;
+        push_marked(alloc, out, marks, Who::Controller(lane), records)?;
     }
     Ok(())
 }
@@ -99,7 +130,8 @@ pub(crate) fn push_packets(
 ) -> Result<(), AllocError>
     ensures { OnOk result (string_bytes out.new ≡ string_bytes out.old ++ packet_lines records.now) }
 {
-    push_workers(alloc, out, records)?;
-    push_controllers(alloc, out, records)?;
+    let marks = lanes_of(records);
+    push_workers(alloc, out, &marks, records)?;
+    push_controllers(alloc, out, &marks, records)?;
     Ok(())
 }

@@ -17,4 +17,6 @@ returns c = record {
   longer_leaves = worked.longer_leaves;
   longest_leaves = worked.longest_leaves;
   too_long_is_dropped = worked.too_long_is_dropped;
+  flood_copies = worked.flood_copies;
+  absent_group_drops = worked.absent_group_drops;
 }

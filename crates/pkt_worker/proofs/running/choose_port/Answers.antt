@@ -1,30 +1,11 @@
-use Rattle.std.proofs.Common.{◌∙◌, ap, suc, Option, None}
-use Rattle.act_exec.specs.Marks.{Marked}
-use Rattle.bm_expr.specs.Store.{Contents}
-use Rattle.bm_pipeline.specs.declared.tables.Node.{Node}
-use Rattle.bm_pipeline.specs.Places.{node_count}
+use Rattle.std.proofs.Common.{◌∙◌}
 use Rattle.canon_bytes.specs.Bits.{bits}
-use Rattle.p4_types.specs.declared.records.Sample.{Sample}
-use Rattle.packet_spec.specs.Meaning.{Verdict, left}
-use Rattle.packet_spec.specs.Walking.{Walk, walk_from}
 use Rattle.pkt_walk.specs.Turns.{walk_at}
-use Rattle.pkt_worker.proofs.Chosen.{goes_through}
+use Rattle.pkt_worker.proofs.Chosen.{not_dropped}
 use Rattle.pkt_worker.proofs.running.choose_port.Goals as goal
 
 pub returns : goal.returns
 returns c =
-    let plane = c.args.plane.now.now in
-    let n = suc (node_count plane.config.program) in
-    let rest = bits c.args.rest.now in
-    let hits = c.args.out.now.hits in
-    let port = c.egress_spec-port.result in
-    let walk : Walk = walk_at c.args.store.now c.args.marks.now hits in
-    let egress : Walk = walk_at c.walk.new.store c.walk.new.marks c.walk.new.out.hits in
-    let through =
-    c.walk.ensures.walked
-    ∙ ap (λ (start : Option Node). walk_from plane n start (walk_at c.enter_egress.new.store c.clear.new.self hits)) c.egress_of.ensures.start
-    ∙ ap (λ (marks : Marked). walk_from plane n plane.config.program.egress (walk_at c.enter_egress.new.store marks hits)) c.clear.ensures
-    ∙ ap (λ (store : Contents). walk_from plane n plane.config.program.egress (record { store = store; learned = None; hits = hits })) c.enter_egress.ensures.entered in
-    c.leave.ensures c.walk.new.marks.learned
-    ∙ ap (λ (sample : Option Sample). left plane c.args.cpu port rest sample egress) (ap (λ (v : Verdict). v.sample) c.walk.ensures.others)
-    ∙ goes_through plane c.args.cpu port rest c.args.out.now.sample walk egress c.egress_spec-port.ensures c.if-port-eq-DROP_PORT.false through
+    c.through_egress.ensures.left
+    ∙ not_dropped c.args.plane.now.now c.args.cpu c.egress_spec.result (bits c.args.rest.now) c.args.out.now.sample (walk_at c.args.store.now c.args.marks.now c.args.out.now.hits) c.egress_spec.ensures
+    c.if-egress_spec-eq-DROP_PORT.false

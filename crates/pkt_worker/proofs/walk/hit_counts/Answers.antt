@@ -9,7 +9,7 @@ use Rattle.pkt_worker.proofs.walk.hit_counts.Goals as goal
 pub hit_cells-requires-clause-room : goal.hit_cells-requires-clause-room
 hit_cells-requires-clause-room c =
     let same = cells_as c.args.plane.now.now c.counts.result.now c.args.marks.now.counted c.counts.ensures in
-    let within : length c.args.out.now.hits + length (flat_map (λ count. cell_hit c.args.plane.now.now (counted_by count)) c.counts.result.now) ≤ 16640 =
+    let within : length c.args.out.now.hits + length (flat_map (λ count. cell_hit c.args.plane.now.now (counted_by count)) c.counts.result.now) ≤ 274560 =
     omega (arith, ap length same, c.requires.room) in
     within
 

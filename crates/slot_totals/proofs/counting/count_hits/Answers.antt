@@ -8,8 +8,8 @@ count_at-requires-clause-within c = within_at _ _ _ _ _ _ (sym c.loop-hit.invari
 
 pub count_at-requires-clause-under : goal.count_at-requires-clause-under
 count_at-requires-clause-under c =
-    let bytes = few_bytes c.loop-hit.hit-index 65536 c.args.bytes (omega arith) c.requires.short in
-    wider _ _ _ _ _ (omega arith) (omega arith) (c.loop-hit.invariant.under 9223372036854775808 9223372036854775808 c.requires.under)
+    let bytes = few_bytes c.loop-hit.hit-index 274560 c.args.bytes (omega arith) c.requires.short in
+    wider _ _ _ _ _ (omega arith) (omega arith) (c.loop-hit.invariant.under 9223372036854775808 13835058055282163712 c.requires.under)
 
 pub loop-hit-preserved : goal.loop-hit-preserved
 loop-hit-preserved c =

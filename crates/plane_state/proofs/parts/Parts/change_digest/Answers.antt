@@ -10,10 +10,12 @@ invariant_of-self-2 c = record {
   now = record {
     changed = c.self.invariant.now.changed;
     digests = digests_rise_by c.edit.result c.args.change.now _ _ c.self.invariant.now.digests c.edit.ensures.ok c.edit.ensures.err;
+    multicast = c.self.invariant.now.multicast;
   };
   before = record {
     changed = c.self.invariant.before.changed;
     digests = subst (λ (l : List DigestEntry). AreRising (λ d. d.digest_id) l) (sym c.edit.ensures.before) c.self.invariant.before.digests;
+    multicast = c.self.invariant.before.multicast;
   };
 }
 

@@ -13,32 +13,32 @@ returns-in_default-clause-refused c = absent c.args.name.now _ (c.in_default.ens
 pub give_back-requires-clause-member_named : goal.give_back-requires-clause-member_named
 give_back-requires-clause-member_named c =
     let i = c.self.inside in
-    let old : Counted = counted_of i.config i.store.entries i.changed.items i.profiles.now i.digests.items i.cells i.rows in
+    let old : Counted = counted_of i.config i.store.entries i.changed.items i.profiles.now i.digests.items i.multicast.items i.cells i.rows in
     (entry_named_is old c.args.name.now c.in-Some.former.now c.in_ok-action.action (subst (λ (v : CountedVersions). IsCounted v.now) (sym c.self.view_is) c.requires.counted) (sym c.in-Some.ensures) c.in_ok-action.ensures).members
 
 pub give_back-requires-clause-group_named : goal.give_back-requires-clause-group_named
 give_back-requires-clause-group_named c =
     let i = c.self.inside in
-    let old : Counted = counted_of i.config i.store.entries i.changed.items i.profiles.now i.digests.items i.cells i.rows in
+    let old : Counted = counted_of i.config i.store.entries i.changed.items i.profiles.now i.digests.items i.multicast.items i.cells i.rows in
     (entry_named_is old c.args.name.now c.in-Some.former.now c.in_ok-action.action (subst (λ (v : CountedVersions). IsCounted v.now) (sym c.self.view_is) c.requires.counted) (sym c.in-Some.ensures) c.in_ok-action.ensures).groups
 
 pub give_back-requires-clause-set_there : goal.give_back-requires-clause-set_there
 give_back-requires-clause-set_there c =
     let i = c.self.inside in
-    let old : Counted = counted_of i.config i.store.entries i.changed.items i.profiles.now i.digests.items i.cells i.rows in
+    let old : Counted = counted_of i.config i.store.entries i.changed.items i.profiles.now i.digests.items i.multicast.items i.cells i.rows in
     (entry_named_is old c.args.name.now c.in-Some.former.now c.in_ok-action.action (subst (λ (v : CountedVersions). IsCounted v.now) (sym c.self.view_is) c.requires.counted) (sym c.in-Some.ensures) c.in_ok-action.ensures).sets
 
 pub overflow_sub-self : goal.overflow_sub-self
 overflow_sub-self c =
     let i = c.self.inside in
-    let old : Counted = counted_of i.config i.store.entries i.changed.items i.profiles.now i.digests.items i.cells i.rows in
+    let old : Counted = counted_of i.config i.store.entries i.changed.items i.profiles.now i.digests.items i.multicast.items i.cells i.rows in
     let within = entry_rows_within old c.args.name.now c.in-Some.former.now (subst (λ (v : CountedVersions). IsCounted v.now) (sym c.self.view_is) c.requires.counted) (sym c.in-Some.ensures) in
     omega (arith, within, c.entry_rows.ensures, ap entry_rows c.in_ok-action.ensures)
 
 pub returns-clause-counted : goal.returns-clause-counted
 returns-clause-counted c =
     let i = c.self.inside in
-    let old : Counted = counted_of i.config i.store.entries i.changed.items i.profiles.now i.digests.items i.cells i.rows in
+    let old : Counted = counted_of i.config i.store.entries i.changed.items i.profiles.now i.digests.items i.multicast.items i.cells i.rows in
     let h : IsCounted old = subst (λ (v : CountedVersions). IsCounted v.now) (sym c.self.view_is) c.requires.counted in
     let named : entry_named c.args.name.now i.store.entries ≡ Some c.in-Some.former.now = sym c.in-Some.ensures in
     let within = entry_rows_within old c.args.name.now c.in-Some.former.now h named in

@@ -10,7 +10,7 @@ use Rattle.plane_state.proofs.parts.Parts.delete_group.Goals as goal
 pub returns-then-group_uses-ne0-clause-refused : goal.returns-then-group_uses-ne0-clause-refused
 returns-then-group_uses-ne0-clause-refused c =
     let i = c.self.inside in
-    let old : Counted = counted_of i.config i.store.entries i.changed.items i.profiles.now i.digests.items i.cells i.rows in
+    let old : Counted = counted_of i.config i.store.entries i.changed.items i.profiles.now i.digests.items i.multicast.items i.cells i.rows in
     let h : IsCounted old = subst (λ (v : CountedVersions). IsCounted v.now) (sym c.self.view_is) c.requires.counted in
     ap (λ (v : CountedVersions). group_delete_cause v.now.plane c.args.profile c.args.id) (sym c.self.view_is)
     ∙ group_in_use old.plane c.args.profile c.args.id (ap is_some (sym c.in-Some.ensures)) (λ none. c.if-group_uses-ne0.true (c.group_uses.ensures ∙ h.groups c.args.profile c.args.id ∙ none))
@@ -18,7 +18,7 @@ returns-then-group_uses-ne0-clause-refused c =
 pub give_back_shares-requires : goal.give_back_shares-requires
 give_back_shares-requires c =
     let i = c.self.inside in
-    let old : Counted = counted_of i.config i.store.entries i.changed.items i.profiles.now i.digests.items i.cells i.rows in
+    let old : Counted = counted_of i.config i.store.entries i.changed.items i.profiles.now i.digests.items i.multicast.items i.cells i.rows in
     let h : IsCounted old = subst (λ (v : CountedVersions). IsCounted v.now) (sym c.self.view_is) c.requires.counted in
     let named = shares_named old c.args.profile c.args.id c.in-Some.former.now c.in_ok-former.former h (sym c.in-Some.ensures) c.in_ok-former.ensures in
     record { named = λ p j. omega (arith, named p j, ap (λ rows. uses_of_member p j (record i.profiles.now { members = rows })) c.in_ok-delete_group.ensures.members) }
@@ -26,7 +26,7 @@ give_back_shares-requires c =
 pub overflow_sub-self : goal.overflow_sub-self
 overflow_sub-self c =
     let i = c.self.inside in
-    let old : Counted = counted_of i.config i.store.entries i.changed.items i.profiles.now i.digests.items i.cells i.rows in
+    let old : Counted = counted_of i.config i.store.entries i.changed.items i.profiles.now i.digests.items i.multicast.items i.cells i.rows in
     let h : IsCounted old = subst (λ (v : CountedVersions). IsCounted v.now) (sym c.self.view_is) c.requires.counted in
     let within = group_rows_within old c.args.profile c.args.id c.in-Some.former.now h (sym c.in-Some.ensures) in
     omega (arith, within, c.group_rows.ensures, ap group_rows c.in_ok-former.ensures)
@@ -34,7 +34,7 @@ overflow_sub-self c =
 pub returns-clause-refused : goal.returns-clause-refused
 returns-clause-refused c =
     let i = c.self.inside in
-    let old : Counted = counted_of i.config i.store.entries i.changed.items i.profiles.now i.digests.items i.cells i.rows in
+    let old : Counted = counted_of i.config i.store.entries i.changed.items i.profiles.now i.digests.items i.multicast.items i.cells i.rows in
     let h : IsCounted old = subst (λ (v : CountedVersions). IsCounted v.now) (sym c.self.view_is) c.requires.counted in
     ap (λ (v : CountedVersions). group_delete_cause v.now.plane c.args.profile c.args.id) (sym c.self.view_is)
     ∙ group_unused old.plane c.args.profile c.args.id (ap is_some (sym c.in-Some.ensures)) (sym (h.groups c.args.profile c.args.id) ∙ sym c.group_uses.ensures ∙ c.if-group_uses-ne0.false)
@@ -42,7 +42,7 @@ returns-clause-refused c =
 pub returns-clause-counted : goal.returns-clause-counted
 returns-clause-counted c =
     let i = c.self.inside in
-    let old : Counted = counted_of i.config i.store.entries i.changed.items i.profiles.now i.digests.items i.cells i.rows in
+    let old : Counted = counted_of i.config i.store.entries i.changed.items i.profiles.now i.digests.items i.multicast.items i.cells i.rows in
     let h : IsCounted old = subst (λ (v : CountedVersions). IsCounted v.now) (sym c.self.view_is) c.requires.counted in
     let gone = c.in_ok-delete_group.ensures in
     let given = c.in_ok-give_back_shares.ensures in

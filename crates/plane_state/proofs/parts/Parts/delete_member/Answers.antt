@@ -7,7 +7,7 @@ use Rattle.plane_state.proofs.parts.Parts.delete_member.Goals as goal
 pub returns-clause-counted : goal.returns-clause-counted
 returns-clause-counted c =
     let i = c.self.inside in
-    let old : Counted = counted_of i.config i.store.entries i.changed.items i.profiles.now i.digests.items i.cells i.rows in
+    let old : Counted = counted_of i.config i.store.entries i.changed.items i.profiles.now i.digests.items i.multicast.items i.cells i.rows in
     let h : IsCounted old = subst (λ (v : CountedVersions). IsCounted v.now) (sym c.self.view_is) c.requires.counted in
     let made = c.in_ok-delete_member.ensures in
     let within = member_rows_within old c.args.profile c.args.id c.in-Some._former.now h (sym c.in-Some.ensures) in

@@ -17,7 +17,7 @@ insert-requires-clause-table c = sym (found_id _ _ _ (sym c.in-Some-table.ensure
 pub returns-in-Err-clause-refused : goal.returns-in-Err-clause-refused
 returns-in-Err-clause-refused c =
     let i = c.self.inside in
-    let old : Counted = counted_of i.config i.store.entries i.changed.items i.profiles.now i.digests.items i.cells i.rows in
+    let old : Counted = counted_of i.config i.store.entries i.changed.items i.profiles.now i.digests.items i.multicast.items i.cells i.rows in
     let h : IsCounted old = subst (λ (v : CountedVersions). IsCounted v.now) (sym c.self.view_is) c.requires.counted in
     let facts = c.info.ensures ∙ ap (λ config. config.info) c.get.ensures in
     let found : table_of c.args.change.now.name.table i.config.info ≡ Some c.in-Some-table.table.now = ap (table_of c.args.change.now.name.table) (sym facts) ∙ sym c.in-Some-table.ensures.found in
@@ -29,7 +29,7 @@ returns-in-Err-clause-refused c =
 pub returns-clause-refused : goal.returns-clause-refused
 returns-clause-refused c =
     let i = c.self.inside in
-    let old : Counted = counted_of i.config i.store.entries i.changed.items i.profiles.now i.digests.items i.cells i.rows in
+    let old : Counted = counted_of i.config i.store.entries i.changed.items i.profiles.now i.digests.items i.multicast.items i.cells i.rows in
     let h : IsCounted old = subst (λ (v : CountedVersions). IsCounted v.now) (sym c.self.view_is) c.requires.counted in
     let facts = c.info.ensures ∙ ap (λ config. config.info) c.get.ensures in
     let found : table_of c.args.change.now.name.table i.config.info ≡ Some c.in-Some-table.table.now = ap (table_of c.args.change.now.name.table) (sym facts) ∙ sym c.in-Some-table.ensures.found in
@@ -41,7 +41,7 @@ returns-clause-refused c =
 pub returns-clause-counted : goal.returns-clause-counted
 returns-clause-counted c =
     let i = c.self.inside in
-    let old : Counted = counted_of i.config i.store.entries i.changed.items i.profiles.now i.digests.items i.cells i.rows in
+    let old : Counted = counted_of i.config i.store.entries i.changed.items i.profiles.now i.digests.items i.multicast.items i.cells i.rows in
     let h : IsCounted old = subst (λ (v : CountedVersions). IsCounted v.now) (sym c.self.view_is) c.requires.counted in
     let named = c.in_ok-take.ensures in
     let more : HasMore c.args.change.now.action i.profiles.now c.take.new.self.now = record { members = named.member_uses; groups = named.group_uses; sets = named.set_actions } in

@@ -9,7 +9,7 @@ use Rattle.plane_state.proofs.parts.Parts.insert_member.Goals as goal
 pub returns-clause-counted : goal.returns-clause-counted
 returns-clause-counted c =
     let i = c.self.inside in
-    let old : Counted = counted_of i.config i.store.entries i.changed.items i.profiles.now i.digests.items i.cells i.rows in
+    let old : Counted = counted_of i.config i.store.entries i.changed.items i.profiles.now i.digests.items i.multicast.items i.cells i.rows in
     let h : IsCounted old = subst (λ (v : CountedVersions). IsCounted v.now) (sym c.self.view_is) c.requires.counted in
     let made = c.in_ok-insert_member.ensures in
     counted_as _ _ (same_plane old.plane _ _ _ _ _ _ refl (made.members ∙ ap (λ (m : Member). member_inserted m old.plane.members) c.copy.ensures) (ap (λ rows. groups_of (record i.profiles.now { groups = rows })) made.groups))

@@ -12,7 +12,7 @@ returns-in-Err-clause-refused c = only_memory (Unit {0}) Drawn c.in-Err.refusal 
 pub give_back-requires-clause-member_named : goal.give_back-requires-clause-member_named
 give_back-requires-clause-member_named c =
     let i = c.self.inside in
-    let old : Counted = counted_of i.config i.store.entries i.changed.items i.profiles.now i.digests.items i.cells i.rows in
+    let old : Counted = counted_of i.config i.store.entries i.changed.items i.profiles.now i.digests.items i.multicast.items i.cells i.rows in
     let h : IsCounted old = subst (λ (v : CountedVersions). IsCounted v.now) (sym c.self.view_is) c.requires.counted in
     let named = entry_named_is old c.args.change.now.name c.in-Some.former.now c.in_ok-action.action h (sym c.in-Some.ensures) c.in_ok-action.ensures in
     λ p j. omega (arith, named.members p j, c.in_ok-take.ensures.member_uses p j)
@@ -20,7 +20,7 @@ give_back-requires-clause-member_named c =
 pub give_back-requires-clause-group_named : goal.give_back-requires-clause-group_named
 give_back-requires-clause-group_named c =
     let i = c.self.inside in
-    let old : Counted = counted_of i.config i.store.entries i.changed.items i.profiles.now i.digests.items i.cells i.rows in
+    let old : Counted = counted_of i.config i.store.entries i.changed.items i.profiles.now i.digests.items i.multicast.items i.cells i.rows in
     let h : IsCounted old = subst (λ (v : CountedVersions). IsCounted v.now) (sym c.self.view_is) c.requires.counted in
     let named = entry_named_is old c.args.change.now.name c.in-Some.former.now c.in_ok-action.action h (sym c.in-Some.ensures) c.in_ok-action.ensures in
     λ p j. omega (arith, named.groups p j, c.in_ok-take.ensures.group_uses p j)
@@ -28,7 +28,7 @@ give_back-requires-clause-group_named c =
 pub give_back-requires-clause-set_there : goal.give_back-requires-clause-set_there
 give_back-requires-clause-set_there c =
     let i = c.self.inside in
-    let old : Counted = counted_of i.config i.store.entries i.changed.items i.profiles.now i.digests.items i.cells i.rows in
+    let old : Counted = counted_of i.config i.store.entries i.changed.items i.profiles.now i.digests.items i.multicast.items i.cells i.rows in
     let h : IsCounted old = subst (λ (v : CountedVersions). IsCounted v.now) (sym c.self.view_is) c.requires.counted in
     let named = entry_named_is old c.args.change.now.name c.in-Some.former.now c.in_ok-action.action h (sym c.in-Some.ensures) c.in_ok-action.ensures in
     λ p. omega (arith, named.sets p, c.in_ok-take.ensures.set_actions p)
@@ -36,7 +36,7 @@ give_back-requires-clause-set_there c =
 pub overflow_sub-self-inside : goal.overflow_sub-self-inside
 overflow_sub-self-inside c =
     let i = c.self.inside in
-    let old : Counted = counted_of i.config i.store.entries i.changed.items i.profiles.now i.digests.items i.cells i.rows in
+    let old : Counted = counted_of i.config i.store.entries i.changed.items i.profiles.now i.digests.items i.multicast.items i.cells i.rows in
     let h : IsCounted old = subst (λ (v : CountedVersions). IsCounted v.now) (sym c.self.view_is) c.requires.counted in
     let within = entry_rows_within old c.args.change.now.name c.in-Some.former.now h (sym c.in-Some.ensures) in
     omega (arith, within, c.entry_rows-freed.ensures)
@@ -44,7 +44,7 @@ overflow_sub-self-inside c =
 pub returns-clause-counted : goal.returns-clause-counted
 returns-clause-counted c =
     let i = c.self.inside in
-    let old : Counted = counted_of i.config i.store.entries i.changed.items i.profiles.now i.digests.items i.cells i.rows in
+    let old : Counted = counted_of i.config i.store.entries i.changed.items i.profiles.now i.digests.items i.multicast.items i.cells i.rows in
     let h : IsCounted old = subst (λ (v : CountedVersions). IsCounted v.now) (sym c.self.view_is) c.requires.counted in
     let former = c.in-Some.former.now in
     let within = entry_rows_within old c.args.change.now.name former h (sym c.in-Some.ensures) in

@@ -9,7 +9,7 @@ use Rattle.plane_state.proofs.parts.Parts.modify_group.Goals as goal
 pub give_back_shares-requires : goal.give_back_shares-requires
 give_back_shares-requires c =
     let i = c.self.inside in
-    let old : Counted = counted_of i.config i.store.entries i.changed.items i.profiles.now i.digests.items i.cells i.rows in
+    let old : Counted = counted_of i.config i.store.entries i.changed.items i.profiles.now i.digests.items i.multicast.items i.cells i.rows in
     let h : IsCounted old = subst (λ (v : CountedVersions). IsCounted v.now) (sym c.self.view_is) c.requires.counted in
     let named = shares_named old c.args.group.now.profile c.args.group.now.id c.in-Some.former.now c.in_ok-left.left h (sym c.in-Some.ensures) c.in_ok-left.ensures in
     record { named = λ p j. omega (arith, named p j, c.in_ok-take_shares.ensures.uses p j) }
@@ -17,7 +17,7 @@ give_back_shares-requires c =
 pub overflow_sub-self-inside : goal.overflow_sub-self-inside
 overflow_sub-self-inside c =
     let i = c.self.inside in
-    let old : Counted = counted_of i.config i.store.entries i.changed.items i.profiles.now i.digests.items i.cells i.rows in
+    let old : Counted = counted_of i.config i.store.entries i.changed.items i.profiles.now i.digests.items i.multicast.items i.cells i.rows in
     let h : IsCounted old = subst (λ (v : CountedVersions). IsCounted v.now) (sym c.self.view_is) c.requires.counted in
     let within = group_rows_within old c.args.group.now.profile c.args.group.now.id c.in-Some.former.now h (sym c.in-Some.ensures) in
     omega (arith, within, c.group_rows-freed.ensures, ap group_rows c.in_ok-left.ensures)
@@ -25,7 +25,7 @@ overflow_sub-self-inside c =
 pub returns-clause-counted : goal.returns-clause-counted
 returns-clause-counted c =
     let i = c.self.inside in
-    let old : Counted = counted_of i.config i.store.entries i.changed.items i.profiles.now i.digests.items i.cells i.rows in
+    let old : Counted = counted_of i.config i.store.entries i.changed.items i.profiles.now i.digests.items i.multicast.items i.cells i.rows in
     let h : IsCounted old = subst (λ (v : CountedVersions). IsCounted v.now) (sym c.self.view_is) c.requires.counted in
     let taken = c.in_ok-take_shares.ensures in
     let given = c.in_ok-give_back_shares.ensures in

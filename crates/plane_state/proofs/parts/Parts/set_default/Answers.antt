@@ -10,10 +10,12 @@ invariant_of-self-2 c = record {
   now = record {
     changed = rises_by c.set.result c.args.table _ _ _ c.self.invariant.now.changed c.set.ensures.ok c.set.ensures.err;
     digests = c.self.invariant.now.digests;
+    multicast = c.self.invariant.now.multicast;
   };
   before = record {
     changed = subst (λ (l : List DefaultAction). AreRising (λ d. d.table) l) (sym c.set.ensures.before) c.self.invariant.before.changed;
     digests = c.self.invariant.before.digests;
+    multicast = c.self.invariant.before.multicast;
   };
 }
 

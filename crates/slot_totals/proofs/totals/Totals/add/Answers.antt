@@ -12,7 +12,7 @@ count_hits-requires-clause-under c =
 
 pub invariant_of-self-2 : goal.invariant_of-self-2
 invariant_of-self-2 c =
-    let bytes = few_bytes (length c.args.hits.now) 65536 c.args.bytes (omega arith) c.requires.short in
+    let bytes = few_bytes (length c.args.hits.now) 274560 c.args.bytes (omega arith) c.requires.short in
     let slots = c.grow_for.ensures.few c.self.invariant.slots in record {
       under = wider _ _ _ _ _ (omega arith) (omega arith) (c.count_hits.ensures.under _ _ (c.grow_for.ensures.under _ _ c.self.invariant.under));
       slots = omega (arith, slots, c.count_hits.ensures.len);

@@ -5,7 +5,7 @@ use Rattle.tape_form.proofs.report.packets.push_controllers.Goals as goal
 
 pub loop-lane-preserved : goal.loop-lane-preserved
 loop-lane-preserved c =
-    lane_more Controller c.loop-lane.lane 32 c.args.records.now (string_bytes c.loop-lane.out) (string_bytes c.push_lane.new.out) c.loop-lane-test.true c.in_ok-push_lane.ensures
+    lane_more Controller c.loop-lane.lane 32 c.args.records.now (string_bytes c.loop-lane.out) (string_bytes c.push_marked.new.out) c.loop-lane-test.true c.in_ok-push_marked.ensures
     ∙ c.loop-lane.invariant
 
 pub returns : goal.returns
